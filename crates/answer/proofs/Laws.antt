@@ -1,0 +1,31 @@
+-- Laws of steps, for the proofs of rules: what a chain's calls ensure, joined.
+-- Assumes nothing.
+use Prim.Native.Nat.{ℕ}
+use mathlib.Core.Path.{_≡_, refl}
+use Rattle.answer.specs.declared.Reason.{Reason}
+use Rattle.answer.specs.declared.Answer.{Answer}
+use Rattle.answer.specs.declared.Step.{Step}
+use Rattle.answer.specs.declared.Step.the-variants.{Pass, Stop}
+use Rattle.answer.specs.Steps.{_andThen_, _orAccept_}
+
+pub then-is : {r a b a′ b′ : Step} → r ≡ a andThen b → a ≡ a′ → b ≡ b′ → r ≡ a′ andThen b′
+then-is p q t = cc
+
+pub accept-is : {r : Answer} {a a′ : Step} (n : ℕ) → r ≡ a orAccept n → a ≡ a′ → r ≡ a′ orAccept n
+accept-is n p q = cc
+
+-- a step that stops is the word of the whole chain
+pub stops : {a : Step} (r : Reason) (k : ℕ) (b : Step) → a ≡ Stop r k → a andThen b ≡ Stop r k
+unfolding _andThen_
+stops r k b e = rw e
+
+-- a step that passes leaves the word to the next
+pub passes : {a : Step} (b : Step) → a ≡ Pass → a andThen b ≡ b
+unfolding _andThen_
+passes b e = rw e
+
+-- a chain may be cut anywhere
+pub regroup : (a b d : Step) → (a andThen b) andThen d ≡ a andThen (b andThen d)
+unfolding _andThen_
+regroup Pass b d = refl
+regroup (Stop r k) b d = refl

@@ -1,0 +1,23 @@
+-- `answer::Step::then` meets its contract: a passing step hands on the next one's word, a stopping one keeps its own.
+-- Assumes nothing.
+use Rattle.answer.specs.Steps.{_andThen_}
+use borrow.Author.Needs.{needs}
+use Rattle.answer.proofs.Step.then.Statement.{statement}
+use Rattle.answer.proofs.Step.then.Tie as tie
+
+enum-told : tie.Need-enum-told
+enum-told c = search needs
+
+enum-known-self : tie.Need-enum-known-self
+enum-known-self c = search needs
+
+returns : tie.Need-returns
+unfolding _andThen_
+returns c = rw (c .enum-told .given .1)
+
+returns-2 : tie.Need-returns-2
+unfolding _andThen_
+returns-2 c = rw (c .before .self .given .1)
+
+pub then-spec : {M : Type 1} → statement M
+then-spec = tie.close (tie.spec enum-told enum-known-self returns returns-2)

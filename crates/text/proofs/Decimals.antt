@@ -1,0 +1,53 @@
+-- Laws of decimal digits, once over the length: digits in two parts, one digit more, the least and the most that digits write.
+-- Assumes nothing.
+use Prim.Native.Nat.{ℕ, _+_, _*_, _^_, _≤_, _<_}
+use mathlib.Core.Path.{_≡_}
+use mathlib.Core.List.{List, [], _∷_, _++_, map, map-append}
+use native.Mathlib.Nat.{one-le-pow, mul-le-mul-left, mul-le-mul-right, pow-suc}
+use native.Mathlib.Numerals.{add-one}
+use native.Mathlib.Omega.{arith}
+use lib.Dec.{T, leb, leb→le}
+use lib.Pow.{pow-add}
+use lib.ListN.{length, take, drop, getD, length-append, length-map, take-append-drop}
+use lib.Seq.{take-suc}
+use Rattle.text.specs.Decimal.{decimal, digitOf, numberOf}
+use Rattle.text.proofs.Ranges.{both-parts, every}
+
+pub decimal-append : (x y : List ℕ) → decimal (x ++ y) ≡ decimal x * 10 ^ length y + decimal y
+unfolding decimal
+decimal-append [] y = omega arith
+decimal-append (d ∷ x) y = rw (decimal-append x y, length-append x y, pow-add 10 (length x) (length y)) (omega arith)
+
+-- digits below 10 write less than the power of ten for their count
+pub decimal-most : (ds : List ℕ) → T (every (λ d. leb d 9) ds) → decimal ds < 10 ^ length ds
+unfolding decimal
+decimal-most [] t = omega arith
+decimal-most (d ∷ ds) t =
+    let p = both-parts (leb d 9) (every (λ d. leb d 9) ds) t in
+    let h = leb→le d 9 (p .0) in
+    let k = decimal-most ds (p .1) in
+    let m : d * 10 ^ length ds ≤ 9 * 10 ^ length ds = mul-le-mul-right (10 ^ length ds) h in
+    rw (pow-suc 10 (length ds)) (omega arith)
+
+pub number-append : (s t : List ℕ) → numberOf (s ++ t) ≡ numberOf s * 10 ^ length t + numberOf t
+unfolding numberOf
+number-append s t = rw (map-append digitOf s t, decimal-append (map digitOf s) (map digitOf t), length-map t digitOf)
+
+-- one digit
+number-one : (b : ℕ) → numberOf (b ∷ []) ≡ digitOf b
+unfolding numberOf decimal
+number-one b = omega arith
+
+-- one digit more
+pub number-more : (t : List ℕ) (i : ℕ) → i < length t → numberOf (take (i + 1) t) ≡ numberOf (take i t) * 10 + digitOf (getD t i 0)
+number-more t i h =
+    rw (add-one i, take-suc t i 0 h, number-append (take i t) (getD t i 0 ∷ []), number-one (getD t i 0))
+
+-- digits that follow make a number no smaller
+pub number-grows : (i : ℕ) (t : List ℕ) → numberOf (take i t) ≤ numberOf t
+number-grows i t =
+    let n = numberOf (take i t) in
+    let k = length (drop i t) in
+    let e : numberOf t ≡ n * 10 ^ k + numberOf (drop i t) = rw (take-append-drop i t) at (number-append (take i t) (drop i t)) in
+    let m : n * 1 ≤ n * 10 ^ k = mul-le-mul-left n (one-le-pow k 10 (omega arith)) in
+    omega arith

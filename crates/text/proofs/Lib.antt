@@ -1,0 +1,3 @@
+pub mod Ranges
+pub mod Classes
+pub mod Decimals

@@ -1,0 +1,5 @@
+pub mod Ranges
+pub mod Class
+pub mod Decimal
+pub mod Field
+pub mod Quote
