@@ -1,16 +1,20 @@
--- Laws of decimal digits, once over the length: digits in two parts, one digit more, the least and the most that digits write.
+-- Laws of decimal digits, once over the length: digits in two parts, one digit more, the least and the most that digits write, the limit.
 -- Assumes nothing.
 use Prim.Native.Nat.{ℕ, _+_, _*_, _^_, _≤_, _<_}
-use mathlib.Core.Path.{_≡_}
+use mathlib.Core.Path.{_≡_, refl}
+use mathlib.Core.Bool.{Bool, true, false}
 use mathlib.Core.List.{List, [], _∷_, _++_, map, map-append}
 use native.Mathlib.Nat.{one-le-pow, mul-le-mul-left, mul-le-mul-right, pow-suc}
 use native.Mathlib.Numerals.{add-one}
 use native.Mathlib.Omega.{arith}
-use lib.Dec.{T, leb, leb→le}
+use borrow.Author.Tests.{lt-ltb, le-ltb, ltb-true, ltb-false}
+use lib.Dec.{T, leb, ltb, leb→le}
 use lib.Pow.{pow-add}
 use lib.ListN.{length, take, drop, getD, length-append, length-map, take-append-drop}
 use lib.Seq.{take-suc}
-use Rattle.text.specs.Decimal.{decimal, digitOf, numberOf}
+use Rattle.answer.specs.Choice.{pick}
+use Rattle.text.specs.Decimal.{decimal, digitOf, numberOf, fitted}
+use Rattle.text.specs.declared.Number.the-variants.{Fits, Over}
 use Rattle.text.proofs.Ranges.{both-parts, every}
 
 pub decimal-append : (x y : List ℕ) → decimal (x ++ y) ≡ decimal x * 10 ^ length y + decimal y
@@ -51,3 +55,32 @@ number-grows i t =
     let e : numberOf t ≡ n * 10 ^ k + numberOf (drop i t) = rw (take-append-drop i t) at (number-append (take i t) (drop i t)) in
     let m : n * 1 ≤ n * 10 ^ k = mul-le-mul-left n (one-le-pow k 10 (omega arith)) in
     omega arith
+
+pub number-none : numberOf [] ≡ 0
+unfolding numberOf decimal
+number-none = refl
+
+-- the 64-bit limit: a number that fits, one that does not, and what each answer has shown
+pub fits : (n : ℕ) → n < 2 ^ 64 → Fits n ≡ fitted n
+unfolding fitted
+fits n h = rw (lt-ltb n (2 ^ 64) h)
+
+pub over : (n : ℕ) → 2 ^ 64 ≤ n → Over ≡ fitted n
+unfolding fitted
+over n h = rw (le-ltb n (2 ^ 64) h)
+
+by-test : (n m : ℕ) (t : Bool) → ltb n (2 ^ 64) ≡ t → pick t (Fits n) Over ≡ Fits m → (m ≡ n) × (n < 2 ^ 64)
+by-test n m true h e = (cc, ltb-true n (2 ^ 64) h)
+by-test n m false h e = let z : _≡_ {A = ℕ} 0 1 = cc in absurd (omega arith)
+
+pub fitted-is : (n m : ℕ) → fitted n ≡ Fits m → (m ≡ n) × (n < 2 ^ 64)
+unfolding fitted
+fitted-is n m e = by-test n m (ltb n (2 ^ 64)) refl e
+
+over-test : (t : Bool) (n : ℕ) → pick t (Fits n) Over ≡ Over → t ≡ false
+over-test true n e = let z : _≡_ {A = ℕ} 0 1 = cc in absurd (omega arith)
+over-test false n e = refl
+
+pub over-is : (n : ℕ) → fitted n ≡ Over → 2 ^ 64 ≤ n
+unfolding fitted
+over-is n e = ltb-false n (2 ^ 64) (over-test (ltb n (2 ^ 64)) n e)

@@ -1,3 +1,5 @@
 pub mod Ranges
 pub mod Classes
 pub mod Decimals
+pub mod Fields
+pub mod Worked

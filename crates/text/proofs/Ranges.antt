@@ -23,7 +23,7 @@ pub both-parts : (a b : Bool) → T (both a b) → T a × T b
 both-parts true b t = (tt, t)
 both-parts false b t = absurd t
 
-both-of : (a b : Bool) → T a → T b → T (both a b)
+pub both-of : (a b : Bool) → T a → T b → T (both a b)
 both-of true b t u = u
 both-of false b t u = t
 

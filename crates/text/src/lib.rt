@@ -1,8 +1,22 @@
 // Bytes of a field: their classes, the numbers that digits write, and the steps that the rules share.
 ghost use mathlib.Core.Path.{_≡_};
-ghost use Prim.Native.Nat.{_+_, _*_, _<_, _≤_, _^_};
+ghost use Prim.Native.Nat.{_+_, _*_, _<_, _≤_};
+ghost use lib.Dec.{eqb};
 ghost use lib.ListN.{length, getD, take, drop};
+ghost use Rattle.text.specs.Ranges.{within};
 ghost use Rattle.text.specs.Class.{classOf, holds, allowed};
+ghost use Rattle.text.specs.Decimal.{digitOf, numberOf, fitted};
+ghost use Rattle.text.specs.Field.{
+  firstPlace,
+  lengthIs,
+  wrongFrom,
+  firstWrong,
+  literalAt,
+  inRange,
+  digitsIn,
+  twoDigits,
+  fourDigits,
+};
 use answer::Reason;
 use answer::Step;
 
@@ -37,4 +51,226 @@ pub fn classify(b: u8) -> Class
         b'a'..=b'z' => Class::Small,
         _ => Class::Other,
     }
+}
+
+impl Set {
+    fn has(self, c: Class) -> bool
+        ensures { λ r. ⌜ r ≡ holds self c ⌝ }
+    {
+        match self {
+            Set::Digits => match c {
+                Class::Digit => true,
+                Class::Capital => false,
+                Class::Small => false,
+                Class::Other => false,
+            },
+            Set::Capitals => match c {
+                Class::Digit => false,
+                Class::Capital => true,
+                Class::Small => false,
+                Class::Other => false,
+            },
+            Set::Letters => match c {
+                Class::Digit => false,
+                Class::Capital => true,
+                Class::Small => true,
+                Class::Other => false,
+            },
+            Set::CapitalsDigits => match c {
+                Class::Digit => true,
+                Class::Capital => true,
+                Class::Small => false,
+                Class::Other => false,
+            },
+            Set::LettersDigits => match c {
+                Class::Digit => true,
+                Class::Capital => true,
+                Class::Small => true,
+                Class::Other => false,
+            },
+        }
+    }
+}
+
+pub fn allows(set: Set, b: u8) -> bool
+    ensures { λ r. ⌜ r ≡ allowed set b ⌝ }
+{
+    set.has(classify(b))
+}
+
+// The byte at a place, and 0 past the end.
+pub fn at(s: &[u8], i: usize) -> u8
+    ensures { λ r. ⌜ r ≡ getD (now (s .entry)) i 0 ⌝ }
+{
+    if i < s.len() { s[i] } else { 0 }
+}
+
+// The place of the first byte b, and the length where there is none.
+pub fn first_place(s: &[u8], b: u8) -> usize
+    ensures { λ r. ⌜ r ≡ firstPlace b (now (s .entry)) ⌝ }
+{
+    let mut i = 0;
+    while i < s.len() {
+        if s[i] == b {
+            return i;
+        }
+        i += 1;
+    }
+    i
+}
+
+fn wide(x: u8) -> u64
+    ensures { λ r. ⌜ r ≡ x ⌝ }
+{
+    x as u64
+}
+
+// The value of an ASCII digit; a byte below the digits counts as 0.
+fn digit(b: u8) -> u64
+    ensures value { λ r. ⌜ r ≡ digitOf b ⌝ }
+    ensures small { λ r. ⌜ r < 256 ⌝ }
+{
+    if b < 48 { 0 } else { wide(b - 48) }
+}
+
+// A number with one decimal digit more. Below 10^18 it always fits, and no division is made.
+fn with_digit(n: u64, d: u64) -> Number
+    requires { ⌜ d < 256 ⌝ }
+    ensures { λ r. ⌜ r ≡ fitted (n * 10 + d) ⌝ }
+{
+    if n < 1_000_000_000_000_000_000 {
+        return Number::Fits(n * 10 + d);
+    }
+    if n <= (18_446_744_073_709_551_615 - d) / 10 {
+        return Number::Fits(n * 10 + d);
+    }
+    Number::Over
+}
+
+// The number that a text of digits writes.
+pub fn number_of(t: &[u8]) -> Number
+    ensures { λ r. ⌜ r ≡ fitted (numberOf (now (t .entry))) ⌝ }
+{
+    let mut n: u64 = 0;
+    let mut i = 0;
+    while i < t.len() {
+        match with_digit(n, digit(t[i])) {
+            Number::Fits(m) => {
+                n = m;
+            }
+            Number::Over => {
+                return Number::Over;
+            }
+        }
+        i += 1;
+    }
+    Number::Fits(n)
+}
+
+pub fn length_is(s: &[u8], n: usize, check: u16) -> Step
+    ensures { λ r. ⌜ r ≡ lengthIs n (now (s .entry)) check ⌝ }
+{
+    let count = s.len();
+    if count == n {
+        Step::Pass
+    } else {
+        Step::Stop(
+            Reason::Length {
+                place: 0,
+                count: count as u64,
+            },
+            check as u32,
+        )
+    }
+}
+
+// The first of n bytes from a place on that the set does not allow.
+fn wrong_from(set: Set, s: &[u8], from: usize, n: usize, check: u16) -> Step
+    ensures { λ r. ⌜ r ≡ wrongFrom set (now (s .entry)) from n check ⌝ }
+{
+    let mut i = from;
+    let mut left = n;
+    while 0 < left {
+        if allows(set, at(s, i)) {
+            i += 1;
+            left -= 1;
+        } else {
+            return Step::Stop(Reason::Wrong { place: i }, check as u32);
+        }
+    }
+    Step::Pass
+}
+
+// The first of the bytes from one place up to another that the set does not allow.
+pub fn first_wrong(set: Set, s: &[u8], from: usize, to: usize, check: u16) -> Step
+    ensures { λ r. ⌜ r ≡ firstWrong set (now (s .entry)) from to check ⌝ }
+{
+    if to <= from {
+        return Step::Pass;
+    }
+    wrong_from(set, s, from, to - from, check)
+}
+
+pub fn literal(s: &[u8], i: usize, b: u8, check: u16) -> Step
+    ensures { λ r. ⌜ r ≡ literalAt (now (s .entry)) i b check ⌝ }
+{
+    if at(s, i) == b {
+        Step::Pass
+    } else {
+        Step::Stop(Reason::Wrong { place: i }, check as u32)
+    }
+}
+
+fn between(low: u64, high: u64, n: u64) -> bool
+    ensures { λ r. ⌜ r ≡ within low high n ⌝ }
+{
+    if low <= n { n <= high } else { false }
+}
+
+// A number that was read at a place lies from low to high.
+pub fn in_range(i: usize, low: u64, high: u64, n: u64, check: u32) -> Step
+    ensures { λ r. ⌜ r ≡ inRange i low high n check ⌝ }
+{
+    if between(low, high, n) {
+        Step::Pass
+    } else {
+        Step::Stop(Reason::Range { place: i, value: n }, check)
+    }
+}
+
+// The number that n digits at a place write; digits_in calls it only where they stand there.
+fn value_at(s: &[u8], i: usize, n: usize) -> u64
+    requires { ⌜ (i + n ≤ length (now s)) × (numberOf (take n (drop i (now s))) < 10000) ⌝ }
+    ensures { λ r. ⌜ r ≡ numberOf (take n (drop i (now (s .entry)))) ⌝ }
+{
+    let mut v: u64 = 0;
+    let mut k = 0;
+    while k < n {
+        v = v * 10 + digit(s[i + k]);
+        k += 1;
+    }
+    v
+}
+
+// n digits at a place, and then their range, whose check number is the next.
+fn digits_in(n: usize, s: &[u8], i: usize, low: u64, high: u64, check: u16) -> Step
+    requires { ⌜ (1 ≤ n) × (n ≤ 4) ⌝ }
+    ensures { λ r. ⌜ r ≡ digitsIn n (now (s .entry)) i low high check ⌝ }
+{
+    match wrong_from(Set::Digits, s, i, n, check) {
+        Step::Pass => in_range(i, low, high, value_at(s, i, n), check as u32 + 1),
+        Step::Stop(reason, step) => Step::Stop(reason, step),
+    }
+}
+
+pub fn two_digits(s: &[u8], i: usize, low: u64, high: u64, check: u16) -> Step
+    ensures { λ r. ⌜ r ≡ twoDigits (now (s .entry)) i low high check ⌝ }
+{
+    digits_in(2, s, i, low, high, check)
+}
+
+pub fn four_digits(s: &[u8], i: usize, low: u64, high: u64, check: u16) -> Step
+    ensures { λ r. ⌜ r ≡ fourDigits (now (s .entry)) i low high check ⌝ }
+{
+    digits_in(4, s, i, low, high, check)
 }

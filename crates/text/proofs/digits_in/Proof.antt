@@ -1,0 +1,57 @@
+-- `text::digits_in` meets its contract: where the digits stand there they are inside the field and write a number below 10^4.
+-- Assumes nothing.
+use mathlib.Core.Path.{_≡_, sym, _∙_}
+use native.Mathlib.Omega.{arith}
+use Rattle.answer.specs.Steps.{_andThen_}
+use Rattle.answer.specs.declared.Step.the-variants.{Pass}
+use Rattle.text.specs.Field.{wrongFrom, digitsIn}
+use Rattle.text.specs.declared.Set.the-variants.{Digits}
+use Rattle.text.proofs.Fields.{all-inside, digits-most}
+use borrow.Author.Needs.{needs}
+use Rattle.text.proofs.digits_in.Statement.{statement}
+use Rattle.text.proofs.digits_in.Tie as tie
+
+wrong-from-requires : tie.Need-wrong-from-requires
+wrong-from-requires c κs = search needs
+
+enum-told : tie.Need-enum-told
+enum-told c = search needs
+
+value-at-requires : tie.Need-value-at-requires
+value-at-requires c κs =
+    let w = c .before .before in
+    let a = w .before .before .args in
+    let p : wrongFrom Digits (a .s .now) (a .i) (a .n) (a .check) ≡ Pass = sym (w .wrong-from .ensures) ∙ c .enum-told .given .1 in
+    (all-inside Digits (a .s .now) (a .i) (a .n) (a .check) (omega arith) p, digits-most (a .s .now) (a .i) (a .n) (a .check) 4 (omega arith) p)
+
+add-in-range : tie.Need-add-in-range
+add-in-range c = search needs
+
+in-range-requires : tie.Need-in-range-requires
+in-range-requires c κs = search needs
+
+enum-known-reason : tie.Need-enum-known-reason
+enum-known-reason c = search needs
+
+returns : tie.Need-returns
+unfolding digitsIn _andThen_
+returns c =
+    rw (← c .before .before .before .before .wrong-from .ensures, c .before .before .enum-told .given .1, ← c .before .value-at .ensures)
+    (c .in-range .ensures)
+
+returns-2 : tie.Need-returns-2
+unfolding digitsIn _andThen_
+returns-2 c = rw (← c .before .before .before .wrong-from .ensures, c .before .reason .given .1)
+
+pub digits-in-spec : {M : Type 1} → statement M
+digits-in-spec =
+    tie.close
+    (tie.spec
+    wrong-from-requires
+    enum-told
+    value-at-requires
+    add-in-range
+    in-range-requires
+    enum-known-reason
+    returns
+    returns-2)
