@@ -1,0 +1,64 @@
+-- All that the proofs use of a letter's value and of a slip: a letter's value is small, tells letters apart, and so a slip changes the value
+-- of a character and not the count of its digits.
+-- Assumes nothing.
+use mathlib.Core.Path.{_≡_}
+use mathlib.Core.Bool.{true, false}
+use mathlib.Core.Logic.{_≢_, ⊎-elim}
+use Prim.Native.Nat.{ℕ, _<_}
+use native.Mathlib.Omega.{arith}
+use lib.Dec.{T}
+use Rattle.answer.specs.Choice.{both}
+use Rattle.text.specs.Class.{isDigit, isLetter}
+use Rattle.text.proofs.Ranges.{both-parts, either-parts}
+use Rattle.text.proofs.Classes.{is-digit, above-digits, digit-ends, letter-ends}
+use Rattle.checkdigit.specs.Letter.{letterValue, Slip}
+use Rattle.checkdigit.specs.Sum.{valueOf}
+use Rattle.checkdigit.proofs.Digits.{count, char-count}
+
+pub byte-value : (b : ℕ) → b < 256 → letterValue b < 256
+unfolding letterValue
+byte-value b h = omega arith
+
+letter-low : (b : ℕ) → T (isLetter b) → letterValue b < 97
+unfolding letterValue
+letter-low b t = let e = letter-ends b t in omega arith
+
+letter-tells : (a b : ℕ) → T (isLetter a) → T (isLetter b) → letterValue a ≡ letterValue b → a ≡ b
+unfolding letterValue
+letter-tells a b s t e = let p = letter-ends a s in let q = letter-ends b t in omega arith
+
+-- two characters written with as many digits, whose values are different remainders
+pub record Kin (a b : ℕ) : Type 0 where
+  pub digits : count a ≡ count b
+  pub low : valueOf a < 97
+  pub low′ : valueOf b < 97
+  pub apart : valueOf a ≢ valueOf b
+
+kin-digits : (a b : ℕ) → T (isDigit a) → T (isDigit b) → a ≢ b → Kin a b
+unfolding valueOf
+kin-digits a b s t n =
+    let h = digit-ends a s in
+    let k = digit-ends b t in
+    let p : isDigit a ≡ true = is-digit a (h .0) (h .1) in
+    let q : isDigit b ≡ true = is-digit b (k .0) (k .1) in
+    record { digits = rw (char-count a, char-count b, p, q); low = rw p (omega arith); low′ = rw q (omega arith); apart = rw (p, q) (λ e. n (omega arith)) }
+
+kin-letters : (a b : ℕ) → T (isLetter a) → T (isLetter b) → a ≢ b → Kin a b
+unfolding valueOf
+kin-letters a b s t n =
+    let h = letter-ends a s in
+    let k = letter-ends b t in
+    let p : isDigit a ≡ false = above-digits a (omega arith) in
+    let q : isDigit b ≡ false = above-digits b (omega arith) in
+    record {
+      digits = rw (char-count a, char-count b, p, q);
+      low = rw p (letter-low a s);
+      low′ = rw q (letter-low b t);
+      apart = rw (p, q) (λ e. n (letter-tells a b s t e));
+    }
+
+pub kin : {a b : ℕ} → Slip a b → Kin a b
+kin {a} {b} s =
+    ⊎-elim (λ t. let p = both-parts (isDigit a) (isDigit b) t in kin-digits a b (p .0) (p .1) (s .other))
+    (λ t. let p = both-parts (isLetter a) (isLetter b) t in kin-letters a b (p .0) (p .1) (s .other))
+    (either-parts (both (isDigit a) (isDigit b)) (both (isLetter a) (isLetter b)) (s .kind))

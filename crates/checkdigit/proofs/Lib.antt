@@ -1,0 +1,9 @@
+pub mod Mod
+pub mod Digits
+pub mod Letters
+pub mod Place
+pub mod Errors
+pub mod Iban
+pub mod Fill
+pub mod Promises
+pub mod Worked

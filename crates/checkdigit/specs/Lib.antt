@@ -1,0 +1,4 @@
+pub mod Letter
+pub mod Sum
+pub mod Fill
+pub mod Verdict

@@ -1,0 +1,81 @@
+// ISO 7064 MOD 97-10 over the characters of a text: the running remainder, that of an LEI and of an IBAN, and the check digits.
+ghost use mathlib.Core.Path.{_≡_};
+ghost use mathlib.Core.List.{[], _∷_};
+ghost use Prim.Native.Nat.{_<_, _^_};
+ghost use Rattle.checkdigit.specs.Letter.{letterValue};
+ghost use Rattle.checkdigit.specs.Sum.{numberAfter, continued, remainderOf, ibanRemainder, Remains};
+ghost use Rattle.checkdigit.specs.Fill.{Fills};
+ghost use Rattle.checkdigit.specs.Verdict.{remainderStep};
+use answer::Reason;
+use answer::Step;
+
+fn wide(b: u8) -> u64
+    ensures { λ r. ⌜ r ≡ b ⌝ }
+{
+    b as u64
+}
+
+fn letter_value(b: u8) -> u64
+    ensures { λ r. ⌜ r ≡ letterValue b ⌝ }
+{
+    if b < 55 { 0 } else { wide(b - 55) }
+}
+
+// A character's digits after a number's: one for a digit, two for any other character.
+fn step(n: u64, b: u8) -> u64
+    requires { ⌜ n < 10 ^ 17 ⌝ }
+    ensures { λ r. ⌜ r ≡ numberAfter n (b ∷ []) ⌝ }
+{
+    match b {
+        b'0'..=b'9' => n * 10 + wide(b - 48),
+        _ => n * 100 + letter_value(b),
+    }
+}
+
+// The remainder of r's digits with the text's after them, one character at a time.
+pub fn mod97(r: u64, t: &[u8]) -> u64
+    ensures { λ x. ⌜ Remains (continued r (now (t .entry))) x ⌝ }
+{
+    let mut remainder = r % 97;
+    let mut i = 0;
+    while i < t.len() {
+        remainder = step(remainder, t[i]) % 97;
+        i += 1;
+    }
+    remainder
+}
+
+// Of the text as it stands: an LEI's.
+pub fn remainder(t: &[u8]) -> u64
+    ensures { λ x. ⌜ Remains (remainderOf (now (t .entry))) x ⌝ }
+{
+    mod97(0, t)
+}
+
+// Of the text with its first four characters moved to the end; a shorter one stays as it is.
+pub fn iban_remainder(t: &[u8]) -> u64
+    ensures { λ x. ⌜ Remains (ibanRemainder (now (t .entry))) x ⌝ }
+{
+    if t.len() < 4 {
+        return remainder(t);
+    }
+    let r = mod97(0, &t[4..]);
+    mod97(r, &t[0..4])
+}
+
+// The check digits from the remainder that digits 00 in their place give.
+pub fn check_digits(r: u64) -> u64
+    ensures { λ d. ⌜ Fills r d ⌝ }
+{
+    98 - r % 97
+}
+
+// The last step of both rules.
+pub fn remainder_is_one(r: u64, check: u16) -> Step
+    ensures { λ x. ⌜ x ≡ remainderStep r check ⌝ }
+{
+    if r == 1 {
+        return Step::Pass;
+    }
+    Step::Stop(Reason::Remainder { rest: r }, check as u32)
+}
