@@ -1,0 +1,5 @@
+pub mod Chars
+pub mod Ascii
+pub mod Prefix
+pub mod Promises
+pub mod Worked
