@@ -1,0 +1,63 @@
+// Codes of capital letters that stand on a list: what the rules of kinds 7 and 8 share.
+ghost use mathlib.Core.Path.{_≡_};
+ghost use Prim.Native.Nat.{_+_, _*_};
+ghost use Rattle.answer.specs.Steps.{must, _orAccept_};
+ghost use Rattle.answer.specs.declared.Reason.the-variants.{NotListed};
+ghost use Rattle.codes.specs.Codes.{notEmpty, wellSpelt, among};
+use answer::Answer;
+use answer::Reason;
+use answer::Step;
+use text::Set;
+
+fn not_empty(s: &[u8], check: u16) -> Step
+    ensures { λ r. ⌜ r ≡ notEmpty (now (s .entry)) check ⌝ }
+{
+    if 0 < s.len() {
+        Step::Pass
+    } else {
+        Step::Stop(Reason::Missing { place: 0 }, check as u32)
+    }
+}
+
+// The steps before the list, for a code of n bytes.
+pub fn well_spelt(kind: u8, n: usize, s: &[u8]) -> Step
+    ensures { λ r. ⌜ r ≡ wellSpelt kind n (now (s .entry)) ⌝ }
+{
+    let first = 100 * kind as u16;
+    not_empty(s, first + 1)
+        .then(text::length_is(s, n, first + 2))
+        .then(text::first_wrong(Set::Letters, s, 0, n, first + 3))
+        .then(text::first_wrong(Set::Capitals, s, 0, n, first + 4))
+}
+
+// The answer of a code that is well spelt.
+pub fn by_list(kind: u8, listed: bool) -> Answer
+    ensures { λ r. ⌜ r ≡ must listed NotListed (100 * kind + 5) orAccept 0 ⌝ }
+{
+    if listed {
+        Answer::Accepted(0)
+    } else {
+        Answer::Refused(Reason::NotListed, 100 * kind as u32 + 5)
+    }
+}
+
+// Three bytes as one number; a code of two has 0 before it.
+pub fn number(a: u8, b: u8, c: u8) -> u32
+    ensures { λ r. ⌜ r ≡ 65536 * a + 256 * b + c ⌝ }
+{
+    65536 * a as u32 + 256 * b as u32 + c as u32
+}
+
+// Whether a code stands in a table.
+pub fn among(table: &[u32], code: u32) -> bool
+    ensures { λ r. ⌜ r ≡ among (now (table .entry)) code ⌝ }
+{
+    let mut i = 0;
+    while i < table.len() {
+        if table[i] == code {
+            return true;
+        }
+        i += 1;
+    }
+    false
+}

@@ -1,0 +1,5 @@
+pub mod Lefts
+pub mod Classes
+pub mod Holding
+pub mod Verdict
+pub mod Worked

@@ -1,0 +1,178 @@
+// Kind 1: an international bank account number (IBAN), ISO 13616, in a field with blanks of any width.
+ghost use mathlib.Core.Path.{_≡_};
+ghost use mathlib.Core.List.{[]};
+ghost use Prim.Native.Nat.{_≤_};
+ghost use lib.ListN.{length, set};
+ghost use Rattle.answer.specs.declared.Step.{Step};
+ghost use Rattle.iban.specs.Left.{left, placeIn};
+ghost use Rattle.iban.specs.Iban.{countStep, ibanAnswer};
+ghost use Rattle.iban.specs.Held.{padded, heldBy, heldOf, heldSteps, Keeps};
+use answer::Answer;
+use answer::Reason;
+use answer::Step;
+use text::Set;
+use utf8::Decoded;
+
+// The word of the character steps; and where they pass, the text without its blanks, zeros after its last character.
+pub struct Held {
+    pub step: Step,
+    pub count: usize,
+    pub text: [u8; 34],
+}
+
+fn zeros() -> [u8; 34]
+    ensures { λ r. ⌜ r ≡ padded 34 [] ⌝ }
+{
+    [0u8; 34]
+}
+
+// A byte more, where there is room: past 34 characters only their count matters.
+fn put(text: &mut [u8], count: usize, b: u8)
+    ensures { λ _. ⌜ now (text .exit) ≡ set (now (text .entry)) count b ⌝ }
+{
+    if count < text.len() {
+        text[count] = b;
+    }
+}
+
+// The characters left of a field, up to the first that is not ASCII.
+fn keep(s: &[u8]) -> Held
+    ensures { λ r. ⌜ Keeps (now (s .entry)) r ⌝ }
+{
+    let mut text = zeros();
+    let mut count = 0;
+    let mut at = 0;
+    while at < s.len() {
+        match utf8::decode(s, at) {
+            Decoded::Char { scalar, width } => {
+                if utf8::is_white_space(scalar) {
+                    at += width;
+                    continue;
+                }
+                if 128 <= scalar {
+                    let step = Step::Stop(Reason::Wrong { place: at }, 101);
+                    return Held { step, count, text };
+                }
+                put(&mut text, count, (scalar % 256) as u8);
+                count += 1;
+                at += width;
+            }
+            Decoded::Bad => {
+                let step = Step::Pass;
+                return Held { step, count, text };
+            }
+        }
+    }
+    let step = Step::Pass;
+    Held { step, count, text }
+}
+
+// The class steps on a text without blanks, with places in that text.
+pub fn class_steps(t: &[u8]) -> Step
+    ensures { λ r. ⌜ r ≡ heldSteps (now (t .entry)) ⌝ }
+{
+    text::first_wrong(Set::Capitals, t, 0, 2, 103)
+        .then(text::first_wrong(Set::Digits, t, 2, 4, 104))
+        .then(text::first_wrong(Set::LettersDigits, t, 4, t.len(), 105))
+}
+
+// The place in the field of the k-th character left.
+fn place_of(s: &[u8], k: usize) -> usize
+    ensures { λ r. ⌜ r ≡ placeIn k (left (now (s .entry))) ⌝ }
+{
+    let mut ahead = k;
+    let mut at = 0;
+    while at < s.len() {
+        match utf8::decode(s, at) {
+            Decoded::Char { scalar: code, width } => {
+                if utf8::is_white_space(code) {
+                    at += width;
+                    continue;
+                }
+                if ahead == 0 {
+                    return at;
+                }
+                ahead -= 1;
+                at += width;
+            }
+            Decoded::Bad => {
+                return 0;
+            }
+        }
+    }
+    0
+}
+
+fn count_step(n: usize) -> Step
+    ensures { λ r. ⌜ r ≡ countStep n ⌝ }
+{
+    if n < 5 {
+        return Step::Stop(
+            Reason::Length {
+                place: 0,
+                count: n as u64,
+            },
+            102,
+        );
+    }
+    if 34 < n {
+        return Step::Stop(
+            Reason::Length {
+                place: 0,
+                count: n as u64,
+            },
+            102,
+        );
+    }
+    Step::Pass
+}
+
+fn refused(reason: Reason, check: u32) -> Held
+    ensures { λ r. ⌜ r ≡ heldBy (Step.Stop reason check) [] ⌝ }
+{
+    Held {
+        step: Step::Stop(reason, check),
+        count: 0,
+        text: zeros(),
+    }
+}
+
+// Every step but the remainder, and the text where they pass.
+pub fn hold(s: &[u8]) -> Held
+    ensures { λ r. ⌜ r ≡ heldOf (now (s .entry)) ⌝ }
+{
+    let kept = keep(s);
+    let count = kept.count;
+    let text = kept.text;
+    let ascii = kept.step;
+    match ascii.then(count_step(count)) {
+        Step::Pass => match class_steps(&text[0..count]) {
+            Step::Pass => Held {
+                step: Step::Pass,
+                count,
+                text,
+            },
+            Step::Stop(reason, check) => {
+                let place = place_of(s, reason.place());
+                refused(Reason::Wrong { place }, check)
+            }
+        },
+        Step::Stop(reason, check) => refused(reason, check),
+    }
+}
+
+pub fn validate_iban(s: &[u8]) -> Answer
+    ensures { λ r. ⌜ r ≡ ibanAnswer (now (s .entry)) ⌝ }
+{
+    let h = hold(s);
+    let count = h.count;
+    let text = h.text;
+    let step = h.step;
+    match step {
+        Step::Pass => {
+            let r = checkdigit::iban_remainder(&text[0..count]);
+            checkdigit::remainder_is_one(r, 106).or_accept(1)
+        }
+        Step::Stop(reason, check) => Answer::Refused(reason, check),
+    }
+}
