@@ -1,28 +1,11 @@
 -- Equal numbers mean equal answers: nothing that an answer says is lost in document 01's table and the check number.
 -- Assumes nothing.
-use Prim.Native.Nat.{ℕ}
 use mathlib.Core.Path.{_≡_, refl, sym, ap, _∙_}
 use lib.Dec.{eqb}
 use Rattle.answer.specs.Choice.{pick}
 use Rattle.answer.specs.Table.{Line, Numbers, numbersOf}
 use Rattle.answer.specs.declared.Reason.{Reason}
-use Rattle.answer.specs.declared.Reason.the-variants.{
-  NotUtf8,
-  Length,
-  Wrong,
-  Range,
-  Remainder,
-  NotListed,
-  NotPositive,
-  Missing,
-  TooLarge,
-  Trailing,
-  TooLong,
-  UnknownKind,
-  NoSheet,
-  NoPlace,
-  Unfit,
-}
+use Rattle.answer.specs.declared.Reason.the-variants.{NotUtf8, Length, Wrong, Range, Remainder, NotListed, NotPositive, Missing, TooLarge, Trailing, TooLong, UnknownKind, NoSheet, NoPlace, Unfit}
 use Rattle.answer.specs.declared.Answer.{Answer}
 use Rattle.answer.specs.declared.Answer.the-variants.{Accepted, Refused}
 

@@ -1,3 +1,4 @@
+-- The definitions that the contracts of `answer` cite.
 pub mod Choice
 pub mod Table
 pub mod Steps

@@ -1,1 +1,2 @@
+-- The laws and theorems of `bic`.
 pub mod Worked

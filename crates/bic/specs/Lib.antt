@@ -1,1 +1,2 @@
+-- The definitions that the contracts of `bic` cite.
 pub mod Bic

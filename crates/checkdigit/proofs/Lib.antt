@@ -1,3 +1,4 @@
+-- The laws and theorems of `checkdigit`.
 pub mod Mod
 pub mod Digits
 pub mod Letters

@@ -1,3 +1,4 @@
+-- The definitions that the contracts of `checkdigit` cite.
 pub mod Letter
 pub mod Sum
 pub mod Fill

@@ -1,2 +1,3 @@
+-- The laws and theorems of `codes`.
 pub mod Laws
 pub mod Worked

@@ -1,1 +1,2 @@
+-- The definitions that the contracts of `codes` cite.
 pub mod Codes

@@ -1,2 +1,3 @@
+-- The laws and theorems of `country`.
 pub mod Promises
 pub mod Worked

@@ -9,9 +9,9 @@ use Rattle.text.specs.Class.{classOf}
 use Rattle.text.specs.Field.{lengthIs, wrongFrom, firstWrong}
 use Rattle.text.specs.Quote.{bytesOf}
 use Rattle.codes.specs.Codes.{notEmpty, onList, wellSpelt, codeRule}
-use Rattle.country.specs.Country.{countries, validateCountry}
+use Rattle.country.specs.Country.{countries, countryAnswer}
 
-pub worked : map (λ t. validateCountry (bytesOf t)) ("GB" ∷ "XK" ∷ "XX" ∷ "gb" ∷ "Gb" ∷ "G1" ∷ "" ∷ "GBR" ∷ [])
+pub worked : map (λ t. countryAnswer (bytesOf t)) ("GB" ∷ "XK" ∷ "XX" ∷ "gb" ∷ "Gb" ∷ "G1" ∷ "" ∷ "GBR" ∷ [])
     ≡ Accepted 0
     ∷ Accepted 0
     ∷ Refused NotListed 705
@@ -21,5 +21,5 @@ pub worked : map (λ t. validateCountry (bytesOf t)) ("GB" ∷ "XK" ∷ "XX" ∷
     ∷ Refused (Missing 0) 701
     ∷ Refused (Length 0 3) 702
     ∷ []
-unfolding validateCountry countries codeRule wellSpelt notEmpty onList lengthIs firstWrong wrongFrom classOf _andThen_ _orAccept_
+unfolding countryAnswer countries codeRule wellSpelt notEmpty onList lengthIs firstWrong wrongFrom classOf _andThen_ _orAccept_
 worked = refl

@@ -27,5 +27,5 @@ countries =
     ∷ "XK"  -- Kosovo, a code in use that the standard leaves to its users
     ∷ [])
 
-unfoldable pub validateCountry : List ℕ → Answer
-validateCountry s = codeRule 7 2 countries s
+unfoldable pub countryAnswer : List ℕ → Answer
+countryAnswer s = codeRule 7 2 countries s

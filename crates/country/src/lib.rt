@@ -2,7 +2,7 @@
 ghost use mathlib.Core.Path.{_≡_};
 ghost use mathlib.Core.List.{map};
 ghost use Rattle.codes.specs.Codes.{packed, among};
-ghost use Rattle.country.specs.Country.{countries, validateCountry};
+ghost use Rattle.country.specs.Country.{countries, countryAnswer};
 use answer::Answer;
 use answer::Step;
 
@@ -269,7 +269,7 @@ fn listed(code: u32) -> bool
 }
 
 pub fn validate_country(s: &[u8]) -> Answer
-    ensures { λ r. ⌜ r ≡ validateCountry (now (s .entry)) ⌝ }
+    ensures { λ r. ⌜ r ≡ countryAnswer (now (s .entry)) ⌝ }
 {
     match codes::well_spelt(7, 2, s) {
         Step::Pass => codes::by_list(7, listed(codes::number(0, text::at(s, 0), text::at(s, 1)))),

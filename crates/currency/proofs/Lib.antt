@@ -1,2 +1,3 @@
+-- The laws and theorems of `currency`.
 pub mod Promises
 pub mod Worked

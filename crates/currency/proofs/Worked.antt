@@ -9,9 +9,9 @@ use Rattle.text.specs.Class.{classOf}
 use Rattle.text.specs.Field.{lengthIs, wrongFrom, firstWrong}
 use Rattle.text.specs.Quote.{bytesOf}
 use Rattle.codes.specs.Codes.{notEmpty, onList, wellSpelt, codeRule}
-use Rattle.currency.specs.Currency.{currencies, validateCurrency}
+use Rattle.currency.specs.Currency.{currencies, currencyAnswer}
 
-pub worked : map (λ t. validateCurrency (bytesOf t)) ("USD" ∷ "HRK" ∷ "BIF" ∷ "XYZ" ∷ "usd" ∷ "USd" ∷ "U5d" ∷ "" ∷ "US" ∷ [])
+pub worked : map (λ t. currencyAnswer (bytesOf t)) ("USD" ∷ "HRK" ∷ "BIF" ∷ "XYZ" ∷ "usd" ∷ "USd" ∷ "U5d" ∷ "" ∷ "US" ∷ [])
     ≡ Accepted 0
     ∷ Accepted 0
     ∷ Refused NotListed 805
@@ -22,5 +22,5 @@ pub worked : map (λ t. validateCurrency (bytesOf t)) ("USD" ∷ "HRK" ∷ "BIF"
     ∷ Refused (Missing 0) 801
     ∷ Refused (Length 0 2) 802
     ∷ []
-unfolding validateCurrency currencies codeRule wellSpelt notEmpty onList lengthIs firstWrong wrongFrom classOf _andThen_ _orAccept_
+unfolding currencyAnswer currencies codeRule wellSpelt notEmpty onList lengthIs firstWrong wrongFrom classOf _andThen_ _orAccept_
 worked = refl

@@ -25,5 +25,5 @@ currencies =
     ∷ "HRK SLL STD VEF MRO BYR"  -- historical codes that old messages still hold
     ∷ [])
 
-unfoldable pub validateCurrency : List ℕ → Answer
-validateCurrency s = codeRule 8 3 currencies s
+unfoldable pub currencyAnswer : List ℕ → Answer
+currencyAnswer s = codeRule 8 3 currencies s

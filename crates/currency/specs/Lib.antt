@@ -1,1 +1,2 @@
+-- The definitions that the contracts of `currency` cite.
 pub mod Currency

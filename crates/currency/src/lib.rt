@@ -2,7 +2,7 @@
 ghost use mathlib.Core.Path.{_≡_};
 ghost use mathlib.Core.List.{map};
 ghost use Rattle.codes.specs.Codes.{packed, among};
-ghost use Rattle.currency.specs.Currency.{currencies, validateCurrency};
+ghost use Rattle.currency.specs.Currency.{currencies, currencyAnswer};
 use answer::Answer;
 use answer::Step;
 
@@ -202,7 +202,7 @@ fn listed(code: u32) -> bool
 }
 
 pub fn validate_currency(s: &[u8]) -> Answer
-    ensures { λ r. ⌜ r ≡ validateCurrency (now (s .entry)) ⌝ }
+    ensures { λ r. ⌜ r ≡ currencyAnswer (now (s .entry)) ⌝ }
 {
     match codes::well_spelt(8, 3, s) {
         Step::Pass => codes::by_list(

@@ -1,2 +1,3 @@
+-- The laws and theorems of `datetime`.
 pub mod Digits
 pub mod Worked

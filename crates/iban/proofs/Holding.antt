@@ -2,24 +2,21 @@
 -- Assumes nothing.
 use Prim.Native.Nat.{ℕ, zero, suc, _+_, _%_, _≤_, _<_}
 use mathlib.Core.Path.{_≡_, refl, sym, _∙_, ap}
-use mathlib.Core.Bool.{Bool, true, false}
+use mathlib.Core.Bool.{true, false}
 use mathlib.Core.List.{List, [], _∷_, _++_, append-nil, append-assoc, map-append}
 use native.Mathlib.Omega.{arith}
 use borrow.Author.Tests.{lt-ltb, le-ltb}
-use lib.Dec.{ltb}
 use lib.ListN.{length, drop, set, take, length-append}
-use Rattle.answer.specs.Steps.{must, _andThen_}
+use Rattle.answer.specs.Steps.{_andThen_}
 use Rattle.answer.specs.declared.Reason.the-variants.{Wrong}
-use Rattle.answer.specs.declared.Step.{Step}
 use Rattle.answer.specs.declared.Step.the-variants.{Pass, Stop}
 use Rattle.utf8.specs.Chars.{chars}
 use Rattle.utf8.specs.Space.{whiteSpace}
 use Rattle.utf8.proofs.Chars.{Stands}
-use Rattle.iban.specs.Left.{Left, left, leftFrom, textOf}
+use Rattle.iban.specs.Left.{Left, left, textOf}
 use Rattle.iban.specs.Iban.{each, isAscii}
 use Rattle.iban.specs.Held.{padded, Keeps}
-use Rattle.iban.specs.declared.Held.{Held}
-use Rattle.iban.proofs.Lefts.{leftAt, left-blank, left-char, left-end, left-start, length-text}
+use Rattle.iban.proofs.Lefts.{leftAt, left-blank, left-char, left-end, length-text}
 
 -- a byte more in the padded text
 padded-more : (n : ℕ) (t : List ℕ) (b : ℕ) → set (padded n t) (length t) b ≡ padded n (t ++ (b ∷ []))

@@ -1,3 +1,4 @@
+-- The laws and theorems of `iban`.
 pub mod Lefts
 pub mod Classes
 pub mod Holding

@@ -84,7 +84,10 @@ fn place_of(s: &[u8], k: usize) -> usize
     let mut at = 0;
     while at < s.len() {
         match utf8::decode(s, at) {
-            Decoded::Char { scalar: code, width } => {
+            Decoded::Char {
+                scalar: code,
+                width,
+            } => {
                 if utf8::is_white_space(code) {
                     at += width;
                     continue;

@@ -1,1 +1,2 @@
+-- The definitions that the contracts of `lei` cite.
 pub mod Lei

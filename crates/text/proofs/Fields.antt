@@ -1,6 +1,6 @@
 -- Laws of the shared steps: a search goes on past an allowed byte, stops at another, and what a search that passed has shown.
 -- Assumes nothing.
-use Prim.Native.Nat.{ℕ, zero, suc, _+_, _-_, _*_, _^_, _≤_, _<_}
+use Prim.Native.Nat.{ℕ, zero, suc, _+_, _-_, _^_, _≤_, _<_}
 use mathlib.Core.Path.{_≡_, refl}
 use mathlib.Core.Bool.{Bool, true, false}
 use mathlib.Core.List.{List, [], _∷_, map}
@@ -16,11 +16,11 @@ use Rattle.answer.specs.declared.Reason.the-variants.{Wrong}
 use Rattle.answer.specs.declared.Step.{Step}
 use Rattle.answer.specs.declared.Step.the-variants.{Pass, Stop}
 use Rattle.text.specs.Class.{allowed, isDigit}
-use Rattle.text.specs.Decimal.{decimal, digitOf, numberOf}
+use Rattle.text.specs.Decimal.{digitOf, numberOf}
 use Rattle.text.specs.Field.{firstPlace, wrongFrom}
 use Rattle.text.specs.declared.Set.{Set}
 use Rattle.text.specs.declared.Set.the-variants.{Digits}
-use Rattle.text.proofs.Ranges.{is-true, both-of, every}
+use Rattle.text.proofs.Ranges.{both-of, every}
 use Rattle.text.proofs.Classes.{digit-ends, allowed-ends}
 use Rattle.text.proofs.Decimals.{decimal-most}
 

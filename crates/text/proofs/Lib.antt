@@ -1,3 +1,4 @@
+-- The laws and theorems of `text`.
 pub mod Ranges
 pub mod Classes
 pub mod Decimals

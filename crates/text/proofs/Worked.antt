@@ -15,7 +15,7 @@ use Rattle.text.specs.declared.Class.{Class}
 use Rattle.text.specs.declared.Class.the-variants.{Digit, Capital, Small, Other}
 use Rattle.text.specs.declared.Number.{Number}
 use Rattle.text.specs.declared.Number.the-variants.{Fits, Over}
-use Rattle.text.specs.declared.Set.the-variants.{Digits, Capitals, CapitalsDigits}
+use Rattle.text.specs.declared.Set.the-variants.{Capitals, CapitalsDigits}
 
 -- the bytes beside each end of a class
 abbrev ends : List Class

@@ -1,3 +1,4 @@
+-- The definitions that the contracts of `text` cite.
 pub mod Ranges
 pub mod Class
 pub mod Decimal

@@ -1,3 +1,4 @@
+-- The laws and theorems of `utf8`.
 pub mod Chars
 pub mod Ascii
 pub mod Prefix

@@ -3,7 +3,7 @@
 use mathlib.Core.Path.{sym, _∙_}
 use native.Mathlib.Omega.{arith}
 use Rattle.codes.proofs.Laws.{misspelt, by-number}
-use Rattle.country.specs.Country.{countries, validateCountry}
+use Rattle.country.specs.Country.{countries, countryAnswer}
 use Rattle.country.proofs.Promises.{formed}
 use borrow.Author.Needs.{needs}
 use Rattle.country.proofs.validate_country.Statement.{statement}
@@ -34,7 +34,7 @@ enum-known-reason : tie.Need-enum-known-reason
 enum-known-reason c = search needs
 
 returns : tie.Need-returns
-unfolding validateCountry
+unfolding countryAnswer
 returns c =
     let m = c .before .before in
     let t = m .before .before .before in
@@ -44,7 +44,7 @@ returns c =
     (omega (arith, m .number .ensures, m .before .at2 .ensures, m .before .before .at .ensures)) (c .before .listed .ensures)
 
 returns-2 : tie.Need-returns-2
-unfolding validateCountry
+unfolding countryAnswer
 returns-2 c =
     let w = c .before .before .before in
     misspelt 7 2 (w .before .before .args .s .now) countries (c .before .reason .given .0 .0) (c .before .reason .given .0 .1 .0) (sym (w .well-spelt .ensures) ∙ c .before .reason .given .1)

@@ -3,7 +3,7 @@
 use mathlib.Core.Path.{sym, _∙_}
 use native.Mathlib.Omega.{arith}
 use Rattle.codes.proofs.Laws.{misspelt, by-number}
-use Rattle.currency.specs.Currency.{currencies, validateCurrency}
+use Rattle.currency.specs.Currency.{currencies, currencyAnswer}
 use Rattle.currency.proofs.Promises.{formed}
 use borrow.Author.Needs.{needs}
 use Rattle.currency.proofs.validate_currency.Statement.{statement}
@@ -37,7 +37,7 @@ enum-known-reason : tie.Need-enum-known-reason
 enum-known-reason c = search needs
 
 returns : tie.Need-returns
-unfolding validateCurrency
+unfolding currencyAnswer
 returns c =
     let m = c .before .before in
     let b = m .before .before in
@@ -48,7 +48,7 @@ returns c =
     (omega (arith, m .number .ensures, m .before .at3 .ensures, b .at2 .ensures, b .before .at .ensures)) (c .before .listed .ensures)
 
 returns-2 : tie.Need-returns-2
-unfolding validateCurrency
+unfolding currencyAnswer
 returns-2 c =
     let w = c .before .before .before in
     misspelt 8 3 (w .before .before .args .s .now) currencies (c .before .reason .given .0 .0) (c .before .reason .given .0 .1 .0) (sym (w .well-spelt .ensures) ∙ c .before .reason .given .1)

@@ -1,9 +1,9 @@
 -- `text::at` meets its contract: past the end `getD` gives its default.
 -- Assumes nothing.
-use lib.ListN.{List·getD-eq-default}
 use mathlib.Core.Path.{sym}
 use denote.Ref.{now}
 use borrow.Author.Needs.{needs}
+use lib.ListN.{List·getD-eq-default}
 use Rattle.text.proofs.at.Statement.{statement}
 use Rattle.text.proofs.at.Tie as tie
 

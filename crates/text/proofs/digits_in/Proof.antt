@@ -2,12 +2,12 @@
 -- Assumes nothing.
 use mathlib.Core.Path.{_≡_, sym, _∙_}
 use native.Mathlib.Omega.{arith}
+use borrow.Author.Needs.{needs}
 use Rattle.answer.specs.Steps.{_andThen_}
 use Rattle.answer.specs.declared.Step.the-variants.{Pass}
 use Rattle.text.specs.Field.{wrongFrom, digitsIn}
 use Rattle.text.specs.declared.Set.the-variants.{Digits}
 use Rattle.text.proofs.Fields.{all-inside, digits-most}
-use borrow.Author.Needs.{needs}
 use Rattle.text.proofs.digits_in.Statement.{statement}
 use Rattle.text.proofs.digits_in.Tie as tie
 

@@ -3,8 +3,8 @@
 use mathlib.Core.Path.{_≡_}
 use Prim.Native.Nat.{_-_}
 use native.Mathlib.Omega.{arith}
-use Rattle.text.specs.Field.{wrongFrom, firstWrong}
 use borrow.Author.Needs.{needs}
+use Rattle.text.specs.Field.{wrongFrom, firstWrong}
 use Rattle.text.proofs.first_wrong.Statement.{statement}
 use Rattle.text.proofs.first_wrong.Tie as tie
 

@@ -1,8 +1,8 @@
 -- `text::literal` meets its contract: the test is the definition's, on the byte that `at` reads.
 -- Assumes nothing.
 use borrow.Author.Tests.{eq-eqb, ne-eqb}
-use Rattle.text.specs.Field.{literalAt}
 use borrow.Author.Needs.{needs}
+use Rattle.text.specs.Field.{literalAt}
 use Rattle.text.proofs.literal.Statement.{statement}
 use Rattle.text.proofs.literal.Tie as tie
 

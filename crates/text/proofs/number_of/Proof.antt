@@ -1,14 +1,12 @@
-use Prim.Native.Nat.{_+_, _*_}
-use mathlib.Core.Path.{_∙_, sym, ap}
-use Rattle.text.proofs.Decimals.{number-none, number-more, number-grows, fits, over, fitted-is, over-is}
-use lib.Seq.{take-all}
 -- `text::number_of` meets its contract. The invariant: the number so far is that of the digits passed; digits that follow make it no smaller.
 -- Assumes nothing.
-use Prim.Native.Nat.{_≤_, _<_, _-_, _^_}
-use mathlib.Core.Path.{_≡_}
+use Prim.Native.Nat.{_+_, _*_, _≤_, _<_, _-_, _^_}
+use mathlib.Core.Path.{_∙_, sym, ap, _≡_}
+use lib.Seq.{take-all}
 use native.Mathlib.Omega.{arith}
 use borrow.Author.Needs.{needs}
 use lib.ListN.{length, take}
+use Rattle.text.proofs.Decimals.{number-none, number-more, number-grows, fits, over, fitted-is, over-is}
 use Rattle.text.specs.Decimal.{numberOf}
 use Rattle.text.proofs.number_of.Statement.{statement}
 use Rattle.text.proofs.number_of.Tie as tie

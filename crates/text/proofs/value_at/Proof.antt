@@ -1,16 +1,12 @@
-use lib.Seq.{take-take, getD-drop}
-use lib.ListN.{take, drop, length-drop}
-use Prim.Native.Nat.{ℕ, _<_}
-use Rattle.text.proofs.Decimals.{number-none, number-more, number-grows}
-use lib.Seq.{take-take}
-use mathlib.Core.Path.{_∙_, sym, ap}
 -- `text::value_at` meets its contract. The invariant: the value so far is that of the digits passed, which is at most the whole value.
 -- Assumes nothing.
-use Prim.Native.Nat.{_≤_, _-_}
+use lib.Seq.{take-take, getD-drop}
+use lib.ListN.{take, drop, length-drop}
+use Prim.Native.Nat.{_<_, _≤_, _-_}
 use mathlib.Core.Path.{_≡_}
 use native.Mathlib.Omega.{arith}
 use borrow.Author.Needs.{needs}
-use lib.ListN.{take, drop}
+use Rattle.text.proofs.Decimals.{number-none, number-more, number-grows}
 use Rattle.text.specs.Decimal.{numberOf}
 use Rattle.text.proofs.value_at.Statement.{statement}
 use Rattle.text.proofs.value_at.Tie as tie

@@ -1,9 +1,9 @@
-use Rattle.text.proofs.Decimals.{fits, over}
-use Prim.Native.Nat.{_+_, _*_}
 -- `text::with_digit` meets its contract: below 10^18 the sum always fits; above, the second test is the limit itself.
 -- Assumes nothing.
+use Prim.Native.Nat.{_+_, _*_}
 use native.Mathlib.Omega.{arith}
 use borrow.Author.Needs.{needs}
+use Rattle.text.proofs.Decimals.{fits, over}
 use Rattle.text.proofs.with_digit.Statement.{statement}
 use Rattle.text.proofs.with_digit.Tie as tie
 

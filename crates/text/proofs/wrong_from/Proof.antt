@@ -1,18 +1,15 @@
-use Rattle.text.proofs.Fields.{allowed-inside, wrong-on, wrong-here, wrong-none}
-use Rattle.text.specs.Class.{allowed}
-use lib.ListN.{length, getD}
-use Prim.Native.Nat.{_<_}
 -- `text::wrong_from` meets its contract. The invariant: the search from i over what is left gives what the whole search gives.
 -- An allowed byte stands inside the field, so the next place fits. The measure is what is left.
 -- Assumes nothing.
-use Prim.Native.Nat.{_-_}
-use mathlib.Core.Path.{_≡_, refl, sym, _∙_, subst}
+use lib.ListN.{length, getD}
+use Prim.Native.Nat.{_<_, _-_}
+use mathlib.Core.Path.{_≡_, refl, sym, _∙_}
 use mathlib.Core.Bool.{true}
 use native.Mathlib.Omega.{arith}
 use borrow.Author.Needs.{needs}
-use lib.Dec.{T}
+use Rattle.text.proofs.Fields.{allowed-inside, wrong-on, wrong-here, wrong-none}
+use Rattle.text.specs.Class.{allowed}
 use Rattle.text.specs.Field.{wrongFrom}
-use Rattle.text.proofs.Fields.{allowed-inside, wrong-on, wrong-here}
 use Rattle.text.proofs.wrong_from.Statement.{statement}
 use Rattle.text.proofs.wrong_from.Tie as tie
 
