@@ -1,0 +1,17 @@
+-- `amount::at_most` meets its contract: the test is the definition's.
+-- Assumes nothing.
+use borrow.Author.Tests.{le-leb, lt-leb}
+use Rattle.amount.specs.Amount.{atMost}
+use Rattle.amount.proofs.at_most.Statement.{statement}
+use Rattle.amount.proofs.at_most.Tie as tie
+
+returns : tie.Need-returns
+unfolding atMost
+returns c = rw (le-leb _ _ (c .if1 .taken))
+
+returns-2 : tie.Need-returns-2
+unfolding atMost
+returns-2 c = rw (lt-leb _ _ (c .if1 .left))
+
+pub at-most-spec : {M : Type 1} → statement M
+at-most-spec = tie.close (tie.spec returns returns-2)

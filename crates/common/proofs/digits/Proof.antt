@@ -1,0 +1,123 @@
+-- `common::digits` meets its contract. The invariant: n is the number of the digits passed, and the search from i on gives what the whole search gives.
+-- Before n could exceed 64 bits `long_digits` takes over. The measure is what is left.
+-- Assumes nothing.
+use Prim.Native.Nat.{_-_, _^_, _≤_, _<_}
+use mathlib.Core.Bool.{true}
+use mathlib.Core.Path.{_≡_, refl, sym, _∙_}
+use native.Mathlib.Omega.{arith}
+use borrow.Author.Tests.{not-true, not-false}
+use borrow.Author.Needs.{needs}
+use lib.ListN.{getD}
+use Rattle.text.specs.Class.{isDigit}
+use Rattle.text.proofs.Classes.{digit-ends}
+use Rattle.text.proofs.Fields.{wrong-here, wrong-none}
+use Rattle.text.specs.Field.{firstWrong, wrongFrom}
+use Rattle.text.specs.declared.Set.the-variants.{Digits}
+use Rattle.common.specs.Cents.{numberAt}
+use Rattle.common.proofs.Reading.{digits-wrong, digits-fit, number-empty, number-next, wrong-next}
+use Rattle.common.proofs.digits.Statement.{statement}
+use Rattle.common.proofs.digits.Tie as tie
+
+abbrev Inv-loop : tie.InvT-loop
+Inv-loop s at to check n₀ i₀ n i = (at ≤ i) × (i ≤ to) × (n < 2 ^ 64) × (n ≡ numberAt s at i) × (firstWrong Digits s at to check ≡ wrongFrom Digits s i (to - i) check)
+
+abbrev μ-loop : tie.MeasureT-loop
+μ-loop s at to check n₀ i₀ n i = to - i
+
+-- the byte that was read is a digit
+good : (c : tie.Else1 Inv-loop μ-loop)
+    → isDigit (getD (c .before .before .before .before .before .before .args .s .now) (c .before .before .before .before .loop .i) 0) ≡ true
+good c = rw (← c .before .allows .ensures) (not-false _ (c .if1 .left))
+
+ends : (c : tie.Else1 Inv-loop μ-loop)
+    → (48 ≤ getD (c .before .before .before .before .before .before .args .s .now) (c .before .before .before .before .loop .i) 0)
+    × (getD (c .before .before .before .before .before .before .args .s .now) (c .before .before .before .before .loop .i) 0 ≤ 57)
+ends c =
+    let k = c .before .before .before .before in
+    digit-ends (getD (k .before .before .args .s .now) (k .loop .i) 0) (rw (good c) tt)
+
+loop-holds : tie.Need-loop-holds Inv-loop μ-loop
+unfolding firstWrong
+loop-holds c =
+    let a = c .before .args in
+    (omega arith, omega arith, omega arith, sym (number-empty (a .s .now) (a .at) (a .at) (omega arith)), refl)
+
+shared-slice-read-b : tie.Need-shared-slice-read-b Inv-loop μ-loop
+shared-slice-read-b c = omega arith
+
+allows-requires : tie.Need-allows-requires Inv-loop μ-loop
+allows-requires c κs = search needs
+
+returns : tie.Need-returns Inv-loop μ-loop
+returns c =
+    let k = c .before .before .before .before in
+    let a = k .before .before .args in
+    digits-wrong (a .s .now) (a .at) (a .to) (a .check) _ _
+    (k .loop .inv .4 ∙ wrong-here Digits (a .s .now) (k .loop .i) (a .check) (a .to - k .loop .i) (omega arith)
+    (rw (← c .before .allows .ensures) (not-true _ (c .if1 .taken))))
+
+long-digits-requires : tie.Need-long-digits-requires Inv-loop μ-loop
+long-digits-requires c κs = search needs
+
+returns-2 : tie.Need-returns-2 Inv-loop μ-loop
+returns-2 c = c .long-digits .ensures
+
+mul-n : tie.Need-mul-n Inv-loop μ-loop
+mul-n c = omega arith
+
+sub-n : tie.Need-sub-n Inv-loop μ-loop
+sub-n c = omega (arith, ends (c .before))
+
+cast-n : tie.Need-cast-n Inv-loop μ-loop
+cast-n c = omega (arith, ends (c .before))
+
+add-n : tie.Need-add-n Inv-loop μ-loop
+add-n c = omega (arith, ends (c .before))
+
+add-i : tie.Need-add-i Inv-loop μ-loop
+add-i c = omega arith
+
+loop-less : tie.Need-loop-less Inv-loop μ-loop
+loop-less c = omega arith
+
+loop-again : tie.Need-loop-again Inv-loop μ-loop
+loop-again c =
+    let k = c .before .before .before .before .before in
+    let a = k .before .before .args in
+    let h = c .before .before .before .before .loop-test .taken in (
+      omega arith,
+      omega arith,
+      omega (arith, ends (c .before)),
+      omega (arith, number-next (a .s .now) (a .at) (k .loop .i) (k .loop .inv .0) (omega arith)),
+      k .loop .inv .4 ∙ wrong-next (a .s .now) (a .at) (k .loop .i) (k .loop .inv .0) (a .to) (a .check) h (good (c .before)),
+    )
+
+returns-3 : tie.Need-returns-3 Inv-loop μ-loop
+returns-3 c =
+    let k = c .before in
+    let a = k .before .before .args in
+    let all : k .loop .i ≡ a .to = omega arith in
+    let none : a .to - k .loop .i ≡ 0 = omega arith in
+    digits-fit (a .s .now) (a .at) (a .to) (a .check) (k .loop .n) (k .loop .inv .4 ∙ rw none (sym (wrong-none Digits (a .s .now) (k .loop .i) (a .check))))
+    (rw (← all) (k .loop .inv .3)) (k .loop .inv .2)
+
+pub digits-spec : {M : Type 1} → statement M
+digits-spec =
+    tie.close
+    (tie.spec
+    Inv-loop
+    μ-loop
+    loop-holds
+    shared-slice-read-b
+    allows-requires
+    returns
+    long-digits-requires
+    returns-2
+    mul-n
+    sub-n
+    cast-n
+    add-n
+    add-i
+    loop-less
+    loop-again
+    returns-3)

@@ -1,0 +1,2 @@
+-- The laws and theorems of `field`.
+pub mod Worked

@@ -1,0 +1,2 @@
+-- The definitions that the contracts of `field` cite.
+pub mod Field

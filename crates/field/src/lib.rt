@@ -1,0 +1,69 @@
+// The check of one field: the choice on the kind, with the steps that every field passes before its rule.
+ghost use mathlib.Core.Path.{_≡_};
+ghost use Rattle.field.specs.Field.{unknownStep, admission, ruleOf, checkField};
+use answer::Answer;
+use answer::Reason;
+use answer::Step;
+
+// The longest field that a rule is asked about.
+pub const FIELD_LIMIT: usize = 1024;
+
+// Document 01's order for a field: 12, 11, 1. A field above the limit is not read.
+fn admit(kind: u16, value: &[u8]) -> Step
+    ensures { λ r. ⌜ r ≡ admission kind (now (value .entry)) ⌝ }
+{
+    if kind < 1 {
+        return unknown(kind);
+    }
+    if 10 < kind {
+        return unknown(kind);
+    }
+    let count = value.len();
+    if FIELD_LIMIT < count {
+        return Step::Stop(
+            Reason::TooLong {
+                count: count as u64,
+            },
+            2,
+        );
+    }
+    let place = utf8::valid_prefix(value);
+    if place == count {
+        return Step::Pass;
+    }
+    Step::Stop(Reason::NotUtf8 { place }, 3)
+}
+
+fn unknown(kind: u16) -> Step
+    ensures { λ r. ⌜ r ≡ unknownStep kind ⌝ }
+{
+    Step::Stop(Reason::UnknownKind { kind: kind as u64 }, 1)
+}
+
+// The rule of a kind.
+fn rule(kind: u16, value: &[u8]) -> Answer
+    ensures { λ r. ⌜ r ≡ ruleOf kind (now (value .entry)) ⌝ }
+{
+    match kind {
+        1 => iban::validate_iban(value),
+        2 => lei::validate_lei(value),
+        3 => bic::validate_bic(value),
+        4 => datetime::validate_iso_date(value),
+        5 => datetime::validate_iso_datetime(value),
+        6 => amount::validate_amount(value),
+        7 => country::validate_country(value),
+        8 => currency::validate_currency(value),
+        9 => common::parse_amount_cents(value),
+        10 => common::parse_amount_cents_lenient(value),
+        _ => unknown(kind).or_accept(0),
+    }
+}
+
+pub fn check_field(kind: u16, value: &[u8]) -> Answer
+    ensures { λ r. ⌜ r ≡ checkField kind (now (value .entry)) ⌝ }
+{
+    match admit(kind, value) {
+        Step::Pass => rule(kind, value),
+        Step::Stop(reason, check) => Answer::Refused(reason, check),
+    }
+}
