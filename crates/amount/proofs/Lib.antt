@@ -1,3 +1,2 @@
--- The laws and theorems of `amount`.
 pub mod Zeros
 pub mod Worked

@@ -6,9 +6,9 @@ use Rattle.answer.specs.Steps.{_andThen_, _orAccept_}
 use Rattle.answer.specs.declared.Answer.the-variants.{Accepted, Refused}
 use Rattle.answer.specs.declared.Reason.the-variants.{Length, Wrong, NotPositive, Missing}
 use Rattle.text.specs.Class.{classOf}
-use Rattle.text.specs.Field.{firstPlace, firstWrong, wrongFrom}
+use Rattle.text.specs.Field.{present, firstPlace, firstWrong, wrongFrom}
 use Rattle.text.specs.Quote.{bytesOf}
-use Rattle.amount.specs.Amount.{present, noMinus, start, atMost, part, fraction, allZero, notZero, validateAmount}
+use Rattle.amount.specs.Amount.{noMinus, start, atMost, part, fraction, allZero, notZero, validateAmount}
 
 pub worked : map (λ t. validateAmount (bytesOf t))
     ("+1" ∷ "999999999999999999.99999" ∷ "" ∷ "-0" ∷ "+" ∷ ".5" ∷ "+.5" ∷ "1a.5" ∷ "+1000000000000000000" ∷ "1." ∷ "1.2.3" ∷ "1.123456" ∷ "0.00000" ∷ "+0" ∷ [])

@@ -12,13 +12,8 @@ use Rattle.answer.specs.declared.Reason.the-variants.{Length, NotPositive, Miss
 use Rattle.answer.specs.declared.Step.{Step}
 use Rattle.answer.specs.declared.Step.the-variants.{Pass}
 use Rattle.text.specs.Ranges.{within}
-use Rattle.text.specs.Field.{firstPlace, firstWrong}
+use Rattle.text.specs.Field.{firstPlace, present, firstWrong}
 use Rattle.text.specs.declared.Set.the-variants.{Digits}
-
--- in each step, k is its check number
--- a byte stands at a place, before the end of its part
-unfoldable pub present : ℕ → ℕ → ℕ → Step
-present at end k = must (ltb at end) (Missing at) k
 
 -- "`-` first, 7"
 unfoldable pub noMinus : List ℕ → Step

@@ -1,2 +1,1 @@
--- The definitions that the contracts of `amount` cite.
 pub mod Amount

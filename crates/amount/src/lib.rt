@@ -1,22 +1,11 @@
 // Amounts, kind 6: one `+` or none, up to 18 digits, and after a `.` one to 5 more, not all of them zero.
 ghost use mathlib.Core.Path.{_≡_};
 ghost use Prim.Native.Nat.{_-_, _<_};
-ghost use Rattle.amount.specs.Amount.{start, present, atMost, part, fraction, noMinus, allZero, notZero, validateAmount};
+ghost use Rattle.amount.specs.Amount.{start, atMost, part, fraction, noMinus, allZero, notZero, validateAmount};
 use answer::Answer;
 use answer::Reason;
 use answer::Step;
 use text::Set;
-
-// A byte stands at a place, before the end of its part.
-fn present(at: usize, end: usize, check: u16) -> Step
-    ensures { λ r. ⌜ r ≡ present at end check ⌝ }
-{
-    if at < end {
-        Step::Pass
-    } else {
-        Step::Stop(Reason::Missing { place: at }, check as u32)
-    }
-}
 
 fn no_minus(s: &[u8]) -> Step
     ensures { λ r. ⌜ r ≡ noMinus (now (s .entry)) ⌝ }
@@ -63,7 +52,7 @@ fn part(s: &[u8], from: usize, to: usize, most: usize, check: u16) -> Step
     requires { ⌜ check < 1000 ⌝ }
     ensures { λ r. ⌜ r ≡ part (now (s .entry)) from to most check ⌝ }
 {
-    present(from, to, check)
+    text::present(from, to, check)
         .then(text::first_wrong(Set::Digits, s, from, to, check + 1))
         .then(at_most(most, from, apart(from, to), check + 2))
 }
@@ -107,7 +96,7 @@ pub fn validate_amount(s: &[u8]) -> Answer
 {
     let from = start(s);
     let dot = text::first_place(s, b'.');
-    present(0, s.len(), 601)
+    text::present(0, s.len(), 601)
         .then(no_minus(s))
         .then(part(s, from, dot, 18, 603))
         .then(fraction(s, dot))

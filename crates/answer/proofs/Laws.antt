@@ -2,11 +2,14 @@
 -- Assumes nothing.
 use Prim.Native.Nat.{ℕ}
 use mathlib.Core.Path.{_≡_, refl}
+use mathlib.Core.Bool.{Bool, true, false}
+use native.Mathlib.Omega.{arith}
+use lib.Dec.{T}
 use Rattle.answer.specs.declared.Reason.{Reason}
 use Rattle.answer.specs.declared.Answer.{Answer}
 use Rattle.answer.specs.declared.Step.{Step}
 use Rattle.answer.specs.declared.Step.the-variants.{Pass, Stop}
-use Rattle.answer.specs.Steps.{_andThen_, _orAccept_}
+use Rattle.answer.specs.Steps.{must, _andThen_, _orAccept_}
 
 pub then-is : {r a b a′ b′ : Step} → r ≡ a andThen b → a ≡ a′ → b ≡ b′ → r ≡ a′ andThen b′
 then-is p q t = cc
@@ -23,6 +26,17 @@ stops r k b e = rw e
 pub passes : {a : Step} (b : Step) → a ≡ Pass → a andThen b ≡ b
 unfolding _andThen_
 passes b e = rw e
+
+-- a chain that passes passes at each step
+pub both-pass : (a b : Step) → a andThen b ≡ Pass → (a ≡ Pass) × (b ≡ Pass)
+unfolding _andThen_
+both-pass Pass b e = (refl, e)
+both-pass (Stop r k) b e = let z : _≡_ {A = ℕ} 0 1 = cc in absurd (omega arith)
+
+-- a test that let the chain pass held
+pub test-held : (t : Bool) (r : Reason) (k : ℕ) → must t r k ≡ Pass → T t
+test-held true r k e = tt
+test-held false r k e = let z : _≡_ {A = ℕ} 0 1 = cc in absurd (omega arith)
 
 -- a chain may be cut anywhere
 pub regroup : (a b d : Step) → (a andThen b) andThen d ≡ a andThen (b andThen d)

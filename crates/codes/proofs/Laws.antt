@@ -24,6 +24,7 @@ use Rattle.text.specs.declared.Set.the-variants.{Capitals}
 use Rattle.text.proofs.Ranges.{both-parts, both-of, every}
 use Rattle.text.proofs.Classes.{allowed-ends}
 use Rattle.text.proofs.Fields.{all-allowed}
+use Rattle.answer.proofs.Laws.{both-pass, test-held}
 use Rattle.codes.specs.Codes.{any, same, onList, wellSpelt, codeRule, packedOn, packed, among}
 
 -- a search of a table, from a place on
@@ -100,16 +101,6 @@ readAt s i (suc n) = getD s i 0 ∷ readAt s (suc i) n
 read-is : (s : List ℕ) (i n : ℕ) → i + n ≤ length s → readAt s i n ≡ take n (drop i s)
 read-is s i zero h = refl
 read-is s i (suc n) h = rw (drop-cons s i 0 (omega arith), read-is s (suc i) n (omega arith))
-
--- a chain that passed: each of its steps did
-both-pass : (a b : Step) → a andThen b ≡ Pass → (a ≡ Pass) × (b ≡ Pass)
-unfolding _andThen_
-both-pass Pass b e = (refl, e)
-both-pass (Stop r k) b e = let z : _≡_ {A = ℕ} 0 1 = cc in absurd (omega arith)
-
-test-held : (t : Bool) (r : Reason) (k : ℕ) → must t r k ≡ Pass → T t
-test-held true r k e = tt
-test-held false r k e = let z : _≡_ {A = ℕ} 0 1 = cc in absurd (omega arith)
 
 every-of : (f : ℕ → Bool) (s : List ℕ) → ((j : ℕ) → j < length s → T (f (getD s j 0))) → T (every f s)
 every-of f [] h = tt

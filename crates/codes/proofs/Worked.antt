@@ -7,9 +7,9 @@ use Rattle.answer.specs.Steps.{_andThen_, _orAccept_}
 use Rattle.answer.specs.declared.Answer.the-variants.{Accepted, Refused}
 use Rattle.answer.specs.declared.Reason.the-variants.{Length, Wrong, NotListed, Missing}
 use Rattle.text.specs.Class.{classOf}
-use Rattle.text.specs.Field.{lengthIs, wrongFrom, firstWrong}
+use Rattle.text.specs.Field.{present, lengthIs, wrongFrom, firstWrong}
 use Rattle.text.specs.Quote.{bytesOf}
-use Rattle.codes.specs.Codes.{codesOf, notEmpty, onList, wellSpelt, codeRule, packed}
+use Rattle.codes.specs.Codes.{codesOf, onList, wellSpelt, codeRule, packed}
 
 abbrev three : List (List ℕ)
 three = codesOf ("AB CD" ∷ "EF" ∷ [])
@@ -26,5 +26,5 @@ pub worked : (three ≡ bytesOf "AB" ∷ bytesOf "CD" ∷ bytesOf "EF" ∷ [])
     ∷ Refused (Wrong 1) 903
     ∷ Refused (Wrong 0) 904
     ∷ [])
-unfolding codeRule wellSpelt notEmpty onList lengthIs firstWrong wrongFrom classOf _andThen_ _orAccept_
+unfolding codeRule wellSpelt present onList lengthIs firstWrong wrongFrom classOf _andThen_ _orAccept_
 worked = (refl, refl, refl)

@@ -12,7 +12,7 @@ use Rattle.answer.specs.Steps.{must, _andThen_, _orAccept_}
 use Rattle.answer.specs.declared.Answer.{Answer}
 use Rattle.answer.specs.declared.Reason.the-variants.{Missing, NotListed}
 use Rattle.answer.specs.declared.Step.{Step}
-use Rattle.text.specs.Field.{lengthIs, firstWrong}
+use Rattle.text.specs.Field.{lengthIs, present, firstWrong}
 use Rattle.text.specs.Quote.{bytesOf}
 use Rattle.text.specs.declared.Set.the-variants.{Letters, Capitals}
 
@@ -39,16 +39,13 @@ same (a ∷ s) [] = false
 same (a ∷ s) (b ∷ t) = both (eqb a b) (same s t)
 
 -- in each step, k is its check number
-unfoldable pub notEmpty : List ℕ → ℕ → Step
-notEmpty s k = must (ltb 0 (length s)) (Missing 0) k
-
 unfoldable pub onList : List (List ℕ) → List ℕ → ℕ → Step
 onList codes s k = must (any (same s) codes) NotListed k
 
 -- the steps before the list; the check numbers of a kind's steps count on from 100 times the kind
 unfoldable pub wellSpelt : ℕ → ℕ → List ℕ → Step
 wellSpelt kind n s =
-    notEmpty s (100 * kind + 1)
+    present 0 (length s) (100 * kind + 1)
     andThen lengthIs n s (100 * kind + 2)
     andThen firstWrong Letters s 0 n (100 * kind + 3)
     andThen firstWrong Capitals s 0 n (100 * kind + 4)

@@ -3,28 +3,18 @@ ghost use mathlib.Core.Path.{_≡_};
 ghost use Prim.Native.Nat.{_+_, _*_};
 ghost use Rattle.answer.specs.Steps.{must, _orAccept_};
 ghost use Rattle.answer.specs.declared.Reason.the-variants.{NotListed};
-ghost use Rattle.codes.specs.Codes.{notEmpty, wellSpelt, among};
+ghost use Rattle.codes.specs.Codes.{wellSpelt, among};
 use answer::Answer;
 use answer::Reason;
 use answer::Step;
 use text::Set;
-
-fn not_empty(s: &[u8], check: u16) -> Step
-    ensures { λ r. ⌜ r ≡ notEmpty (now (s .entry)) check ⌝ }
-{
-    if 0 < s.len() {
-        Step::Pass
-    } else {
-        Step::Stop(Reason::Missing { place: 0 }, check as u32)
-    }
-}
 
 // The steps before the list, for a code of n bytes.
 pub fn well_spelt(kind: u8, n: usize, s: &[u8]) -> Step
     ensures { λ r. ⌜ r ≡ wellSpelt kind n (now (s .entry)) ⌝ }
 {
     let first = 100 * kind as u16;
-    not_empty(s, first + 1)
+    text::present(0, s.len(), first + 1)
         .then(text::length_is(s, n, first + 2))
         .then(text::first_wrong(Set::Letters, s, 0, n, first + 3))
         .then(text::first_wrong(Set::Capitals, s, 0, n, first + 4))

@@ -1,3 +1,2 @@
--- The laws and theorems of `common`.
 pub mod Reading
 pub mod Worked

@@ -24,7 +24,9 @@ use Rattle.text.specs.declared.Set.the-variants.{Digits}
 use Rattle.text.proofs.Decimals.{number-none, number-more}
 use Rattle.text.proofs.Fields.{wrong-on, digits-most}
 use Rattle.text.proofs.Ranges.{is-false, within-yes, within-ends}
-use Rattle.common.specs.Cents.{parsed, present, below64, digitsAt, numberAt, digits, whole, wholeNumber, dot, past, fraction, worth, cents, parts}
+use Rattle.answer.proofs.Laws.{both-pass}
+use Rattle.text.specs.Field.{present}
+use Rattle.common.specs.Cents.{parsed, below64, digitsAt, numberAt, digits, whole, wholeNumber, dot, past, fraction, worth, cents, parts}
 use Rattle.common.specs.declared.Parsed.the-variants.{Is, Not}
 
 parsed-is : (t : Step) (n m : ℕ) → parsed t n ≡ Is m → (t ≡ Pass) × (m ≡ n)
@@ -74,11 +76,6 @@ module _ (s : List ℕ) (at i : ℕ) (from : at ≤ i) where
 picked : (t : Bool) (a b n : ℕ) → n ≤ a → n ≤ b → n ≤ pick t a b
 picked true a b n p q = p
 picked false a b n p q = q
-
-both-pass : (a b : Step) → a andThen b ≡ Pass → (a ≡ Pass) × (b ≡ Pass)
-unfolding _andThen_
-both-pass Pass b e = (refl, e)
-both-pass (Stop r k) b e = let z : _≡_ {A = ℕ} 0 1 = cc in absurd (omega arith)
 
 after-plus : (s : List ℕ) (from to : ℕ) → from ≤ digitsAt s from to
 unfolding digitsAt
@@ -162,13 +159,3 @@ module _ (least : ℕ) (s : List ℕ) (k d : ℕ) (at : d ≡ dot s) where
         let p = parsed-is (whole s 0 d (k + 2)) (wholeNumber s 0 d) n first in
         let q = parsed-is (fraction least s from (k + 5)) (worth s from) m e in
         rw (← at, ← after, p .0, q .0, p .1, q .1)
-
--- a byte's first place is at most the field's length
-at-most : (t : Bool) (n m : ℕ) → n ≤ m → pick t 0 (suc n) ≤ suc m
-at-most true n m h = omega arith
-at-most false n m h = omega arith
-
-pub first-most : (b : ℕ) (s : List ℕ) → firstPlace b s ≤ length s
-unfolding firstPlace
-first-most b [] = omega arith
-first-most b (x ∷ s) = at-most (eqb x b) (firstPlace b s) (length s) (first-most b s)

@@ -8,9 +8,9 @@ use Rattle.answer.specs.declared.Answer.the-variants.{Accepted, Refused}
 use Rattle.answer.specs.declared.Reason.the-variants.{Length, Wrong, Missing, TooLarge}
 use Rattle.text.specs.Class.{classOf}
 use Rattle.text.specs.Decimal.{decimal, numberOf}
-use Rattle.text.specs.Field.{firstPlace, firstWrong, wrongFrom}
+use Rattle.text.specs.Field.{present, firstPlace, firstWrong, wrongFrom}
 use Rattle.text.specs.Quote.{bytesOf}
-use Rattle.common.specs.Cents.{present, below64, digitsAt, numberAt, digits, whole, wholeNumber, past, fraction, worth, cents, parts, parseAmountCents, parseAmountCentsLenient}
+use Rattle.common.specs.Cents.{below64, digitsAt, numberAt, digits, whole, wholeNumber, past, fraction, worth, cents, parts, parseAmountCents, parseAmountCentsLenient}
 
 pub worked : (map (λ t. parseAmountCents (bytesOf t))
     ("184467440737095516.15" ∷ "1.+5" ∷ "0.+0" ∷ "1000" ∷ ".50" ∷ "+.50" ∷ "1-.50" ∷ "18446744073709551616.00" ∷ "1000." ∷ "1.++" ∷ "1.5x" ∷ "184467440737095516.16" ∷ [])

@@ -11,7 +11,7 @@ use Rattle.answer.specs.declared.Reason.the-variants.{Length, Missing, TooLarge
 use Rattle.answer.specs.declared.Step.{Step}
 use Rattle.answer.specs.declared.Step.the-variants.{Pass, Stop}
 use Rattle.text.specs.Decimal.{numberOf}
-use Rattle.text.specs.Field.{firstPlace, firstWrong}
+use Rattle.text.specs.Field.{firstPlace, present, firstWrong}
 use Rattle.text.specs.Ranges.{within}
 use Rattle.text.specs.declared.Set.the-variants.{Digits}
 use Rattle.common.specs.declared.Parsed.{Parsed}
@@ -23,10 +23,6 @@ parsed Pass n = Is n
 parsed (Stop r k) n = Not r k
 
 -- in each step, k is its check number; the numbers of a row of steps follow each other
--- a byte stands at a place, before the end: else 8 there
-unfoldable pub present : ℕ → ℕ → ℕ → Step
-present at end k = must (ltb at end) (Missing at) k
-
 -- "2^64 or more, 9"
 unfoldable pub below64 : ℕ → ℕ → Step
 below64 n k = must (ltb n (2 ^ 64)) TooLarge k

@@ -1,2 +1,1 @@
--- The definitions that the contracts of `common` cite.
 pub mod Cents

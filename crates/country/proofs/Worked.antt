@@ -6,9 +6,9 @@ use Rattle.answer.specs.Steps.{_andThen_, _orAccept_}
 use Rattle.answer.specs.declared.Answer.the-variants.{Accepted, Refused}
 use Rattle.answer.specs.declared.Reason.the-variants.{Length, Wrong, NotListed, Missing}
 use Rattle.text.specs.Class.{classOf}
-use Rattle.text.specs.Field.{lengthIs, wrongFrom, firstWrong}
+use Rattle.text.specs.Field.{present, lengthIs, wrongFrom, firstWrong}
 use Rattle.text.specs.Quote.{bytesOf}
-use Rattle.codes.specs.Codes.{notEmpty, onList, wellSpelt, codeRule}
+use Rattle.codes.specs.Codes.{onList, wellSpelt, codeRule}
 use Rattle.country.specs.Country.{countries, countryAnswer}
 
 pub worked : map (λ t. countryAnswer (bytesOf t)) ("GB" ∷ "XK" ∷ "XX" ∷ "gb" ∷ "Gb" ∷ "G1" ∷ "" ∷ "GBR" ∷ [])
@@ -21,5 +21,5 @@ pub worked : map (λ t. countryAnswer (bytesOf t)) ("GB" ∷ "XK" ∷ "XX" ∷ "
     ∷ Refused (Missing 0) 701
     ∷ Refused (Length 0 3) 702
     ∷ []
-unfolding countryAnswer countries codeRule wellSpelt notEmpty onList lengthIs firstWrong wrongFrom classOf _andThen_ _orAccept_
+unfolding countryAnswer countries codeRule wellSpelt present onList lengthIs firstWrong wrongFrom classOf _andThen_ _orAccept_
 worked = refl

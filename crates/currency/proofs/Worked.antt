@@ -6,9 +6,9 @@ use Rattle.answer.specs.Steps.{_andThen_, _orAccept_}
 use Rattle.answer.specs.declared.Answer.the-variants.{Accepted, Refused}
 use Rattle.answer.specs.declared.Reason.the-variants.{Length, Wrong, NotListed, Missing}
 use Rattle.text.specs.Class.{classOf}
-use Rattle.text.specs.Field.{lengthIs, wrongFrom, firstWrong}
+use Rattle.text.specs.Field.{present, lengthIs, wrongFrom, firstWrong}
 use Rattle.text.specs.Quote.{bytesOf}
-use Rattle.codes.specs.Codes.{notEmpty, onList, wellSpelt, codeRule}
+use Rattle.codes.specs.Codes.{onList, wellSpelt, codeRule}
 use Rattle.currency.specs.Currency.{currencies, currencyAnswer}
 
 pub worked : map (λ t. currencyAnswer (bytesOf t)) ("USD" ∷ "HRK" ∷ "BIF" ∷ "XYZ" ∷ "usd" ∷ "USd" ∷ "U5d" ∷ "" ∷ "US" ∷ [])
@@ -22,5 +22,5 @@ pub worked : map (λ t. currencyAnswer (bytesOf t)) ("USD" ∷ "HRK" ∷ "BIF" �
     ∷ Refused (Missing 0) 801
     ∷ Refused (Length 0 2) 802
     ∷ []
-unfolding currencyAnswer currencies codeRule wellSpelt notEmpty onList lengthIs firstWrong wrongFrom classOf _andThen_ _orAccept_
+unfolding currencyAnswer currencies codeRule wellSpelt present onList lengthIs firstWrong wrongFrom classOf _andThen_ _orAccept_
 worked = refl

@@ -8,7 +8,7 @@ use Rattle.answer.specs.Steps.{_andThen_, _orAccept_}
 use Rattle.answer.specs.Table.{Line, line, numbersOf}
 use Rattle.text.specs.Class.{classOf}
 use Rattle.text.specs.Decimal.{decimal, numberOf}
-use Rattle.text.specs.Field.{firstPlace, lengthIs, wrongFrom, firstWrong}
+use Rattle.text.specs.Field.{present, firstPlace, lengthIs, wrongFrom, firstWrong}
 use Rattle.text.specs.Quote.{bytesOf}
 use Rattle.utf8.specs.Rfc3629.{leadOf, needed, wellFormed, scalarOf, charOf, front}
 use Rattle.utf8.specs.Chars.{charsPast, widths, validPrefix}
@@ -19,7 +19,7 @@ use Rattle.checkdigit.specs.Verdict.{remainderStep}
 use Rattle.iban.specs.Left.{leftFrom, left, textOf}
 use Rattle.iban.specs.Iban.{each, countStep, classSteps, ibanCharacters, ibanAnswer}
 use Rattle.lei.specs.Lei.{leiCharacters, leiAnswer}
-use Rattle.amount.specs.Amount.{present, noMinus, start, atMost, part, fraction, allZero, notZero, validateAmount}
+use Rattle.amount.specs.Amount.{noMinus, start, atMost, part, fraction, allZero, notZero, validateAmount}
 use Rattle.common.specs.Cents as cents
 use Rattle.field.specs.Field.{admission, ruleOf, checkField}
 
@@ -53,5 +53,5 @@ table =
     ∷ []
 
 pub small-table : map (λ c. numbersOf (checkField (c .kind) (bytesOf (c .text))) .line) table ≡ map (λ c. c .says) table
-unfolding classOf decimal numberOf firstPlace lengthIs wrongFrom firstWrong leadOf needed wellFormed scalarOf charOf front charsPast widths validPrefix whiteSpace letterValue valueOf digitsOf expand remainderOf rearranged ibanRemainder remainderStep leftFrom left textOf each countStep classSteps ibanCharacters ibanAnswer leiCharacters leiAnswer present noMinus start atMost part fraction allZero notZero validateAmount cents.parsed cents.present cents.below64 cents.digitsAt cents.numberAt cents.digits cents.whole cents.wholeNumber cents.past cents.fraction cents.worth cents.cents cents.parts cents.parseAmountCents cents.parseAmountCentsLenient admission ruleOf checkField _andThen_ _orAccept_
+unfolding classOf decimal numberOf firstPlace lengthIs wrongFrom firstWrong leadOf needed wellFormed scalarOf charOf front charsPast widths validPrefix whiteSpace letterValue valueOf digitsOf expand remainderOf rearranged ibanRemainder remainderStep leftFrom left textOf each countStep classSteps ibanCharacters ibanAnswer leiCharacters leiAnswer present noMinus start atMost part fraction allZero notZero validateAmount cents.parsed cents.below64 cents.digitsAt cents.numberAt cents.digits cents.whole cents.wholeNumber cents.past cents.fraction cents.worth cents.cents cents.parts cents.parseAmountCents cents.parseAmountCentsLenient admission ruleOf checkField _andThen_ _orAccept_
 small-table = refl

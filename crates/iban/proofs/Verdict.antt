@@ -14,6 +14,7 @@ use Rattle.answer.specs.declared.Reason.{Reason}
 use Rattle.answer.specs.declared.Reason.the-variants.{Length, Wrong}
 use Rattle.answer.specs.declared.Step.{Step}
 use Rattle.answer.specs.declared.Step.the-variants.{Pass, Stop}
+use Rattle.answer.proofs.Laws.{both-pass, test-held}
 use Rattle.text.specs.Ranges.{within}
 use Rattle.text.proofs.Ranges.{within-ends}
 use Rattle.checkdigit.specs.Sum.{ibanRemainder}
@@ -30,18 +31,9 @@ use Rattle.iban.proofs.Holding.{length-padded, padded-front}
 sub-zero : (n : ℕ) → n - 0 ≡ n
 sub-zero n = omega arith
 
-counted-test : (t : Bool) (n : ℕ) → must t (Length 0 n) 102 ≡ Pass → T t
-counted-test true n e = tt
-counted-test false n e = let z : _≡_ {A = ℕ} 0 1 = cc in absurd (omega arith)
-
 pub counted : (n : ℕ) → countStep n ≡ Pass → (5 ≤ n) × (n ≤ 34)
 unfolding countStep
-counted n e = within-ends 5 34 n (counted-test (within 5 34 n) n e)
-
-both-pass : (a b : Step) → a andThen b ≡ Pass → (a ≡ Pass) × (b ≡ Pass)
-unfolding _andThen_
-both-pass Pass b e = (refl, e)
-both-pass (Stop r k) b e = let z : _≡_ {A = ℕ} 0 1 = cc in absurd (omega arith)
+counted n e = within-ends 5 34 n (test-held (within 5 34 n) (Length 0 n) 102 e)
 
 module _ (s : List ℕ) (h : Held) (o : Keeps s h) where
   -- the first two steps passed: the text is whole in the 34 bytes

@@ -8,9 +8,10 @@ use native.Mathlib.Nat.{add-zero, lt-of-lt-of-le, pow-le-pow-right}
 use native.Mathlib.Numerals.{add-one}
 use native.Mathlib.Omega.{arith}
 use borrow.Author.Tests.{eq-eqb, ne-eqb}
-use lib.Dec.{T, leb, le→leb}
+use lib.Dec.{T, eqb, leb, le→leb}
 use lib.ListN.{length, getD, take, drop, length-map, length-take, drop-of-length-le}
 use lib.Seq.{drop-cons}
+use Rattle.answer.specs.Choice.{pick}
 use Rattle.answer.specs.Steps.{must, _andThen_}
 use Rattle.answer.specs.declared.Reason.the-variants.{Wrong}
 use Rattle.answer.specs.declared.Step.{Step}
@@ -37,6 +38,16 @@ module _ (b : ℕ) (s : List ℕ) (i : ℕ) where
   pub first-none : length s ≤ i → firstPlace b (drop i s) ≡ 0
   unfolding firstPlace
   first-none h = rw (drop-of-length-le s h)
+
+-- a byte's first place is at most the field's length
+at-most : (t : Bool) (n m : ℕ) → n ≤ m → pick t 0 (suc n) ≤ suc m
+at-most true n m h = omega arith
+at-most false n m h = omega arith
+
+pub first-most : (b : ℕ) (s : List ℕ) → firstPlace b s ≤ length s
+unfolding firstPlace
+first-most b [] = omega arith
+first-most b (x ∷ s) = at-most (eqb x b) (firstPlace b s) (length s) (first-most b s)
 
 -- a byte that is not 0 stands inside
 pub inside : (s : List ℕ) (i : ℕ) → 0 < getD s i 0 → i < length s

@@ -2,11 +2,11 @@
 -- Assumes nothing.
 use Prim.Native.Nat.{ℕ, zero, suc, _+_, _-_}
 use mathlib.Core.List.{List, [], _∷_}
-use lib.Dec.{eqb}
+use lib.Dec.{eqb, ltb}
 use lib.ListN.{length, getD, take, drop}
 use Rattle.answer.specs.Choice.{pick}
 use Rattle.answer.specs.Steps.{must, _andThen_}
-use Rattle.answer.specs.declared.Reason.the-variants.{Length, Wrong, Range}
+use Rattle.answer.specs.declared.Reason.the-variants.{Length, Wrong, Range, Missing}
 use Rattle.answer.specs.declared.Step.{Step}
 use Rattle.answer.specs.declared.Step.the-variants.{Pass}
 use Rattle.text.specs.Ranges.{within}
@@ -24,6 +24,10 @@ firstPlace b (x ∷ s) = pick (eqb x b) 0 (suc (firstPlace b s))
 -- n bytes, no more and no fewer
 unfoldable pub lengthIs : ℕ → List ℕ → ℕ → Step
 lengthIs n s k = must (eqb (length s) n) (Length 0 (length s)) k
+
+-- a byte stands at a place, before the end of its part; else 8 there
+unfoldable pub present : ℕ → ℕ → ℕ → Step
+present at end k = must (ltb at end) (Missing at) k
 
 -- the first of n bytes from a place on that the set does not allow
 unfoldable pub wrongFrom : Set → List ℕ → ℕ → ℕ → ℕ → Step

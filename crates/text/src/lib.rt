@@ -9,6 +9,7 @@ ghost use Rattle.text.specs.Decimal.{digitOf, numberOf, fitted};
 ghost use Rattle.text.specs.Field.{
   firstPlace,
   lengthIs,
+  present,
   wrongFrom,
   firstWrong,
   literalAt,
@@ -181,6 +182,17 @@ pub fn length_is(s: &[u8], n: usize, check: u16) -> Step
             },
             check as u32,
         )
+    }
+}
+
+// A byte stands at a place, before the end of its part.
+pub fn present(at: usize, end: usize, check: u16) -> Step
+    ensures { λ r. ⌜ r ≡ present at end check ⌝ }
+{
+    if at < end {
+        Step::Pass
+    } else {
+        Step::Stop(Reason::Missing { place: at }, check as u32)
     }
 }
 

@@ -9,11 +9,11 @@ use Rattle.codes.proofs.well_spelt.Tie as tie
 mul-first : tie.Need-mul-first
 mul-first c = search needs
 
-add-not-empty : tie.Need-add-not-empty
-add-not-empty c = search needs
+add-present : tie.Need-add-present
+add-present c = search needs
 
-not-empty-requires : tie.Need-not-empty-requires
-not-empty-requires c κs = search needs
+present-requires : tie.Need-present-requires
+present-requires c κs = search needs
 
 add-length-is : tie.Need-add-length-is
 add-length-is c = search needs
@@ -48,7 +48,7 @@ returns c =
     then-is (c .then3 .ensures)
     (then-is (c .before .before .then2 .ensures)
     (then-is (c .before .before .before .before .then .ensures)
-    (c .before .before .before .before .before .before .not-empty .ensures)
+    (c .before .before .before .before .before .before .present .ensures)
     (c .before .before .before .before .before .length-is .ensures))
     (c .before .before .before .first-wrong .ensures))
     (c .before .first-wrong2 .ensures)
@@ -58,8 +58,8 @@ well-spelt-spec =
     tie.close
     (tie.spec
     mul-first
-    add-not-empty
-    not-empty-requires
+    add-present
+    present-requires
     add-length-is
     length-is-requires
     then-requires

@@ -3,7 +3,8 @@
 use borrow.Author.Tests.{lt-ltb, le-ltb}
 use borrow.Author.Needs.{needs}
 use Rattle.answer.specs.Steps.{_andThen_, _orAccept_}
-use Rattle.common.specs.Cents.{present, parseAmountCents}
+use Rattle.common.specs.Cents.{parseAmountCents}
+use Rattle.text.specs.Field.{present}
 use Rattle.common.proofs.parse_amount_cents.Statement.{statement}
 use Rattle.common.proofs.parse_amount_cents.Tie as tie
 

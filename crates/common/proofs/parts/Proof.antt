@@ -3,7 +3,8 @@
 use mathlib.Core.Path.{_∙_, sym}
 use native.Mathlib.Omega.{arith}
 use borrow.Author.Needs.{needs}
-use Rattle.common.proofs.Reading.{parts-first, parts-second, parts-total, first-most}
+use Rattle.common.proofs.Reading.{parts-first, parts-second, parts-total}
+use Rattle.text.proofs.Fields.{first-most}
 use Rattle.common.proofs.parts.Statement.{statement}
 use Rattle.common.proofs.parts.Tie as tie
 

@@ -1,9 +1,9 @@
--- `amount::present` meets its contract: the test is the definition's.
+-- `text::present` meets its contract: the test is the definition's.
 -- Assumes nothing.
 use borrow.Author.Tests.{lt-ltb, le-ltb}
-use Rattle.amount.specs.Amount.{present}
-use Rattle.amount.proofs.present.Statement.{statement}
-use Rattle.amount.proofs.present.Tie as tie
+use Rattle.text.specs.Field.{present}
+use Rattle.text.proofs.present.Statement.{statement}
+use Rattle.text.proofs.present.Tie as tie
 
 returns : tie.Need-returns
 unfolding present
