@@ -1,9 +1,11 @@
 // Kind 1: an international bank account number (IBAN), ISO 13616, in a field with blanks of any width.
 ghost use mathlib.Core.Path.{_≡_};
+ghost use mathlib.Core.Bool.{true};
 ghost use mathlib.Core.List.{[]};
 ghost use Prim.Native.Nat.{_≤_};
 ghost use lib.ListN.{length, set};
 ghost use Rattle.answer.specs.declared.Step.{Step};
+ghost use Rattle.utf8.specs.Chars.{ascii};
 ghost use Rattle.iban.specs.Left.{left, placeIn};
 ghost use Rattle.iban.specs.Iban.{countStep, ibanAnswer};
 ghost use Rattle.iban.specs.Held.{padded, heldBy, heldOf, heldSteps, Keeps};
@@ -65,6 +67,43 @@ fn keep(s: &[u8]) -> Held
     }
     let step = Step::Pass;
     Held { step, count, text }
+}
+
+fn wide(b: u8) -> u32
+    ensures { λ r. ⌜ r ≡ b ⌝ }
+{
+    b as u32
+}
+
+// The same of an ASCII field, in which no character is decoded and none is stray.
+fn keep_ascii(s: &[u8]) -> Held
+    requires { ⌜ ascii (now s) ≡ true ⌝ }
+    ensures { λ r. ⌜ Keeps (now (s .entry)) r ⌝ }
+{
+    let mut text = zeros();
+    let mut count = 0;
+    let mut at = 0;
+    while at < s.len() {
+        let b = s[at];
+        if utf8::is_white_space(wide(b)) {
+            at += 1;
+            continue;
+        }
+        put(&mut text, count, b);
+        count += 1;
+        at += 1;
+    }
+    let step = Step::Pass;
+    Held { step, count, text }
+}
+
+fn kept(s: &[u8]) -> Held
+    ensures { λ r. ⌜ Keeps (now (s .entry)) r ⌝ }
+{
+    if utf8::is_ascii(s) {
+        return keep_ascii(s);
+    }
+    keep(s)
 }
 
 // The class steps on a text without blanks, with places in that text.
@@ -144,10 +183,10 @@ fn refused(reason: Reason, check: u32) -> Held
 pub fn hold(s: &[u8]) -> Held
     ensures { λ r. ⌜ r ≡ heldOf (now (s .entry)) ⌝ }
 {
-    let kept = keep(s);
-    let count = kept.count;
-    let text = kept.text;
-    let ascii = kept.step;
+    let found = kept(s);
+    let count = found.count;
+    let text = found.text;
+    let ascii = found.step;
     match ascii.then(count_step(count)) {
         Step::Pass => match class_steps(&text[0..count]) {
             Step::Pass => Held {

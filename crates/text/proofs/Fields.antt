@@ -1,7 +1,7 @@
 -- Laws of the shared steps: a search goes on past an allowed byte, stops at another, and what a search that passed has shown.
 -- Assumes nothing.
-use Prim.Native.Nat.{ℕ, zero, suc, _+_, _-_, _^_, _≤_, _<_}
-use mathlib.Core.Path.{_≡_, refl}
+use Prim.Native.Nat.{ℕ, zero, suc, _+_, _-_, _*_, _^_, _≤_, _<_}
+use mathlib.Core.Path.{_≡_, refl, sym, _∙_}
 use mathlib.Core.Bool.{Bool, true, false}
 use mathlib.Core.List.{List, [], _∷_, map}
 use native.Mathlib.Nat.{add-zero, lt-of-lt-of-le, pow-le-pow-right}
@@ -9,8 +9,8 @@ use native.Mathlib.Numerals.{add-one}
 use native.Mathlib.Omega.{arith}
 use borrow.Author.Tests.{eq-eqb, ne-eqb}
 use lib.Dec.{T, eqb, leb, le→leb}
-use lib.ListN.{length, getD, take, drop, length-map, length-take, drop-of-length-le}
-use lib.Seq.{drop-cons}
+use lib.ListN.{length, getD, take, drop, length-map, length-take, length-drop, drop-of-length-le}
+use lib.Seq.{drop-cons, getD-drop}
 use Rattle.answer.specs.Choice.{pick}
 use Rattle.answer.specs.Steps.{must, _andThen_}
 use Rattle.answer.specs.declared.Reason.the-variants.{Wrong}
@@ -23,7 +23,7 @@ use Rattle.text.specs.declared.Set.{Set}
 use Rattle.text.specs.declared.Set.the-variants.{Digits}
 use Rattle.text.proofs.Ranges.{both-of, every}
 use Rattle.text.proofs.Classes.{digit-ends, allowed-ends}
-use Rattle.text.proofs.Decimals.{decimal-most}
+use Rattle.text.proofs.Decimals.{decimal-most, number-none, number-more}
 
 -- the search for a byte, from a place on
 module _ (b : ℕ) (s : List ℕ) (i : ℕ) where
@@ -112,3 +112,21 @@ digits-most s i n k m h e =
     let t = take n (drop i s) in
     lt-of-lt-of-le (decimal-most (map digitOf t) (small-digits s i n k e))
     (pow-le-pow-right (omega arith) (omega (arith, length-map t digitOf, length-take n (drop i s))))
+
+-- a pair of digits at a place: the first wrong one, or the number that they write
+module _ (s : List ℕ) (i k : ℕ) where
+  pub pair-first : isDigit (getD s i 0) ≡ false → wrongFrom Digits s i 2 k ≡ Stop (Wrong i) k
+  pair-first e = wrong-here Digits s i k 2 (omega arith) e
+
+  pub pair-second : isDigit (getD s i 0) ≡ true → isDigit (getD s (i + 1) 0) ≡ false → wrongFrom Digits s i 2 k ≡ Stop (Wrong (i + 1)) k
+  pair-second e f = wrong-on Digits s i k 2 (omega arith) e ∙ wrong-here Digits s (i + 1) k 1 (omega arith) f
+
+  pub pair-passes : isDigit (getD s i 0) ≡ true → isDigit (getD s (i + 1) 0) ≡ true → wrongFrom Digits s i 2 k ≡ Pass
+  pair-passes e f =
+      wrong-on Digits s i k 2 (omega arith) e ∙ wrong-on Digits s (i + 1) k 1 (omega arith) f ∙ sym (wrong-none Digits s (i + 1 + 1) k)
+
+pub pair-number : (s : List ℕ) (i : ℕ) → i + 1 < length s → numberOf (take 2 (drop i s)) ≡ 10 * digitOf (getD s i 0) + digitOf (getD s (i + 1) 0)
+pair-number s i h =
+    let l = drop i s in
+    let n : 1 < length l = omega (arith, length-drop i s) in
+    omega (arith, number-more l 1 n, number-more l 0 (omega arith), number-none, rw (add-zero i) at (getD-drop i s 0 0), getD-drop i s 1 0)

@@ -275,10 +275,19 @@ fn digits_in(n: usize, s: &[u8], i: usize, low: u64, high: u64, check: u16) -> S
     }
 }
 
+// The commonest pair of steps, in one straight line. A digit stands at i, so the next place fits.
 pub fn two_digits(s: &[u8], i: usize, low: u64, high: u64, check: u16) -> Step
     ensures { λ r. ⌜ r ≡ twoDigits (now (s .entry)) i low high check ⌝ }
 {
-    digits_in(2, s, i, low, high, check)
+    let a = at(s, i);
+    if allows(Set::Digits, a) {
+        let b = at(s, i + 1);
+        if allows(Set::Digits, b) {
+            return in_range(i, low, high, 10 * digit(a) + digit(b), check as u32 + 1);
+        }
+        return Step::Stop(Reason::Wrong { place: i + 1 }, check as u32);
+    }
+    Step::Stop(Reason::Wrong { place: i }, check as u32)
 }
 
 pub fn four_digits(s: &[u8], i: usize, low: u64, high: u64, check: u16) -> Step

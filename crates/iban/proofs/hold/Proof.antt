@@ -9,11 +9,11 @@ use Rattle.iban.proofs.hold.Statement.{statement}
 use Rattle.iban.proofs.hold.Tie as tie
 
 -- what is held where the first two steps passed
-passed : (c : tie.After-enum-told) → Whole (now (c .before .before .before .before .before .before .before .args .s)) (c .before .before .before .before .before .keep .result) (c .before .before .before .before .before .keep .ensures)
-passed c = whole _ _ (c .before .before .before .before .before .keep .ensures) (rw (← c .before .before .before .count-step .ensures) (sym (c .before .before .then .ensures) ∙ c .enum-told .given .1))
+passed : (c : tie.After-enum-told) → Whole (now (c .before .before .before .before .before .before .before .args .s)) (c .before .before .before .before .before .kept .result) (c .before .before .before .before .before .kept .ensures)
+passed c = whole _ _ (c .before .before .before .before .before .kept .ensures) (rw (← c .before .before .before .count-step .ensures) (sym (c .before .before .then .ensures) ∙ c .enum-told .given .1))
 
-keep-requires : tie.Need-keep-requires
-keep-requires c κs = search needs
+kept-requires : tie.Need-kept-requires
+kept-requires c κs = search needs
 
 count-step-requires : tie.Need-count-step-requires
 count-step-requires c κs = search needs
@@ -61,7 +61,7 @@ returns : tie.Need-returns
 returns c =
     let d = c .before .before in
     let e = d .before .before .before in
-    held-whole _ _ (e .before .before .before .before .before .keep .ensures) (passed e) _ (d .class-steps .ensures) (c .enum-told2 .given .1)
+    held-whole _ _ (e .before .before .before .before .before .kept .ensures) (passed e) _ (d .class-steps .ensures) (c .enum-told2 .given .1)
 
 returns-2 : tie.Need-returns-2
 returns-2 c =
@@ -70,20 +70,20 @@ returns-2 c =
     let e = d .before .before .before in
     c .refused .ensures
     ∙ rw (c .before .place-of .ensures, c .before .before .place .ensures)
-    (held-wrong _ _ (e .before .before .before .before .before .keep .ensures) (passed e) _ (d .class-steps .ensures) _ _ (n .before .reason .given .1))
+    (held-wrong _ _ (e .before .before .before .before .before .kept .ensures) (passed e) _ (d .class-steps .ensures) _ _ (n .before .reason .given .1))
 
 returns-3 : tie.Need-returns-3
 returns-3 c =
     let n = c .before in
     let t = n .before .before .before in
     c .refused2 .ensures
-    ∙ stopped _ _ (t .before .before .before .keep .ensures) _ _ (rw (← t .before .count-step .ensures) (sym (t .then .ensures) ∙ n .before .reason2 .given .1))
+    ∙ stopped _ _ (t .before .before .before .kept .ensures) _ _ (rw (← t .before .count-step .ensures) (sym (t .then .ensures) ∙ n .before .reason2 .given .1))
 
 pub hold-spec : {M : Type 1} → statement M
 hold-spec =
     tie.close
     (tie.spec
-    keep-requires
+    kept-requires
     count-step-requires
     then-requires
     enum-told
