@@ -1,0 +1,2 @@
+-- The laws and theorems of `stitchbarrow`.
+pub mod Laws

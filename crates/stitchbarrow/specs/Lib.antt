@@ -1,0 +1,2 @@
+-- The definitions that the contracts of `stitchbarrow` cite.
+pub mod Reply

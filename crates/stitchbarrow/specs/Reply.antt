@@ -1,0 +1,38 @@
+-- What each function of the C interface returns and leaves in the slices lent to it; 255 where one is too short, and then nothing is written.
+-- Assumes nothing.
+use Prim.Native.Nat.{ℕ}
+use mathlib.Core.List.{List, [], _∷_, _++_}
+use lib.Dec.{ltb}
+use lib.ListN.{length, drop}
+use Rattle.answer.specs.Choice.{pick}
+use Rattle.answer.specs.Table.{numberOf}
+use Rattle.answer.specs.declared.Answer.{Answer}
+use Rattle.field.specs.Field.{checkField}
+use Rattle.batch.specs.Verdict.{answerBytes}
+use Rattle.batch.specs.Walk.{Outcome, callOf, stopNumber}
+
+-- the byte that is returned, and the answer's slice
+pub record Reply : Type 0 where
+  pub code : ℕ
+  pub bytes : List ℕ
+
+-- an answer in the first 12 bytes of a slice, the others as lent
+unfoldable pub answered : Answer → List ℕ → Reply
+answered a answer = record { code = numberOf a; bytes = answerBytes a ++ drop 12 answer }
+
+unfoldable pub checkReply : ℕ → List ℕ → List ℕ → Reply
+checkReply kind value answer =
+    pick (ltb (length answer) 12) (record { code = 255; bytes = answer }) (answered (checkField kind value) answer)
+
+-- the byte that is returned, the output and the counts
+pub record RunReply : Type 0 where
+  pub code : ℕ
+  pub out : List ℕ
+  pub counts : List ℕ
+
+abbrev pub told : Outcome → List ℕ → RunReply
+told r counts = record { code = stopNumber (r .stop); out = r .out; counts = (r .judged ∷ r .read ∷ r .written ∷ []) ++ drop 3 counts }
+
+unfoldable pub runReply : List ℕ → ℕ → List ℕ → ℕ → List ℕ → RunReply
+runReply batch offset out budget counts =
+    pick (ltb (length counts) 3) (record { code = 255; out = out; counts = counts }) (told (callOf batch offset out budget) counts)
