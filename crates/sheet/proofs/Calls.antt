@@ -1,0 +1,182 @@
+-- What a request does to a text that fits: made, it leaves one that fits; its answer is never 20; and what its answer says of the remainder.
+-- Assumes nothing.
+use Prim.Native.Nat.{ℕ, _≤_, _<_}
+use mathlib.Core.Path.{_≡_, refl, sym, _∙_}
+use mathlib.Core.Bool.{Bool, true, false}
+use mathlib.Core.List.{List}
+use mathlib.Core.Logic.{_≢_}
+use native.Mathlib.Omega.{arith}
+use borrow.Author.Tests.{eqb-true}
+use lib.Dec.{eqb, ltb, eqb→eq}
+use lib.ListN.{length, set, getD}
+use Rattle.answer.specs.Choice.{pick}
+use Rattle.answer.specs.Steps.{must, _andThen_, _orAccept_}
+use Rattle.answer.specs.Table.{numberOf, numberOfReason}
+use Rattle.answer.specs.declared.Answer.the-variants.{Accepted}
+use Rattle.answer.specs.declared.Reason.{Reason}
+use Rattle.answer.specs.declared.Reason.the-variants.{NoPlace, Unfit, Remainder}
+use Rattle.answer.specs.declared.Step.{Step}
+use Rattle.answer.specs.declared.Step.the-variants.{Pass, Stop}
+use Rattle.answer.proofs.Laws.{passes}
+use Rattle.text.specs.Class.{allowed}
+use Rattle.text.specs.declared.Set.the-variants.{LettersDigits}
+use Rattle.checkdigit.specs.Letter.{Slip}
+use Rattle.checkdigit.specs.Sum.{remainderOf, ibanRemainder, exchanged}
+use Rattle.checkdigit.specs.Verdict.{remainderStep}
+use Rattle.checkdigit.proofs.Promises.{replaced-not-one, iban-replaced-not-one, exchanged-not-one, iban-exchanged-not-one, filled-one, iban-filled-one}
+use Rattle.field.specs.Field.{checkField}
+use Rattle.sheet.specs.Sheets.{characters, remainderBy, sheetOf, held}
+use Rattle.sheet.specs.Repairs.{Request, filled, asked, placeStep, byteStep, textStep, unfit, requestSteps, repairBy, repairOf}
+use Rattle.sheet.specs.Repairs.Request.{Replace, Exchange, Fill}
+use Rattle.sheet.specs.Calls.{toldBy, heldBack}
+use Rattle.sheet.specs.declared.Sheet.{Sheet}
+use Rattle.sheet.proofs.Fits.{Fit, by-kind, both-passed, fit-plain, fit-few, plain-fit}
+use Rattle.sheet.proofs.Loads.{fresh, lastCheck}
+use Rattle.sheet.proofs.Sheets.{Stood, held-of, sheet-stood}
+use Rattle.sheet.proofs.Repairs.{place-passed, byte-passed, text-passed, sheet-passes, plain-set, fit-filled}
+
+-- the text of a request that is made fits again
+pub asked-fit : (kind : ℕ) (t : List ℕ) (q : Request) → Fit kind t → requestSteps kind t q ≡ Pass → Fit kind (asked kind t q)
+unfolding requestSteps asked
+asked-fit kind t (Replace p b) f e =
+    let x = both-passed (placeStep (length t) p andThen byteStep p b) (textStep kind (set t p b)) e in
+    let y = both-passed (placeStep (length t) p) (byteStep p b) (x .0) in
+    plain-fit kind (set t p b) (f .known) (plain-set t p b (fit-plain kind t f) (byte-passed p b (y .1))) (text-passed kind (set t p b) (x .1))
+asked-fit kind t (Exchange i j) f e =
+    let x = both-passed (placeStep (length t) i andThen placeStep (length t) j) (textStep kind (exchanged t i j)) e in
+    let y = both-passed (placeStep (length t) i) (placeStep (length t) j) (x .0) in
+    let p = fit-plain kind t f in
+    plain-fit kind (exchanged t i j) (f .known)
+    (plain-set (set t i (getD t j 0)) j (getD t i 0) (plain-set t i (getD t j 0) p (p j (place-passed (length t) j (y .1)))) (p i (place-passed (length t) i (y .0))))
+    (text-passed kind (exchanged t i j) (x .1))
+asked-fit kind t Fill f e = fit-filled kind t f
+
+-- of a sheet that stands, only the request's own steps speak
+pub by-request : (s : Sheet) (q : Request) → Stood s → repairOf s q ≡ repairBy (requestSteps (s .kind) (held s) q) s (asked (s .kind) (held s) q)
+unfolding repairOf
+by-request s q o = rw (passes (requestSteps (s .kind) (held s) q) (sheet-passes s o))
+
+kind-of : (kind : ℕ) (t : List ℕ) → sheetOf kind t .kind ≡ kind
+unfolding sheetOf
+kind-of kind t = refl
+
+told-by : (kind : ℕ) (s : Sheet) (x : Step) (new old : List ℕ) → s .kind ≡ kind → s ≡ sheetOf kind old → repairBy x s new ≡ heldBack kind (toldBy kind x new old)
+unfolding repairBy toldBy
+told-by kind s Pass new old e f = rw e
+told-by kind s (Stop r k) new old e f = rw f
+
+-- a call on the sheet of a text is a step on the text
+pub call-is : (kind : ℕ) (t : List ℕ) (q : Request) → Fit kind t
+    → repairOf (sheetOf kind t) q ≡ heldBack kind (toldBy kind (requestSteps kind t q) (asked kind t q) t)
+unfolding sheetOf
+call-is kind t q f =
+    let s = sheetOf kind t in
+    by-request s q (sheet-stood kind t f)
+    ∙ rw (kind-of kind t, held-of kind t (fit-few kind t f .1)) (told-by kind s (requestSteps kind t q) (asked kind t q) t (kind-of kind t) refl)
+
+pub told-fit : (kind : ℕ) (t : List ℕ) (q : Request) → Fit kind t → (x : Step) → requestSteps kind t q ≡ x → Fit kind (toldBy kind x (asked kind t q) t .text)
+unfolding toldBy
+told-fit kind t q f Pass e = asked-fit kind t q f e
+told-fit kind t q f (Stop r k) e = f
+
+-- .. and none of them answers 20
+Other : Step → Type 0
+Other Pass = Unit {0}
+Other (Stop r k) = numberOfReason r ≢ 20
+
+other-then : (a b : Step) → Other a → Other b → Other (a andThen b)
+unfolding Other _andThen_
+other-then Pass b p q = q
+other-then (Stop r k) b p q = p
+
+other-must : (t : Bool) (r : Reason) (k : ℕ) → numberOfReason r ≢ 20 → Other (must t r k)
+unfolding Other
+other-must true r k n = tt
+other-must false r k n = n
+
+other-unfit : (x : Step) → Other (unfit x)
+unfolding Other
+other-unfit Pass = tt
+other-unfit (Stop r k) = λ e. omega arith
+
+other-place : (n p : ℕ) → Other (placeStep n p)
+unfolding placeStep
+other-place n p = other-must (ltb p n) (NoPlace p) 21 (λ e. omega arith)
+
+other-text : (kind : ℕ) (t : List ℕ) → Other (textStep kind t)
+unfolding textStep
+other-text kind t = other-unfit (characters kind t)
+
+other-request : (kind : ℕ) (t : List ℕ) (q : Request) → Other (requestSteps kind t q)
+unfolding requestSteps byteStep Other
+other-request kind t (Replace p b) =
+    let c = must (allowed LettersDigits b) (Unfit p) 22 in
+    other-then (placeStep (length t) p andThen c) (textStep kind (set t p b))
+    (other-then (placeStep (length t) p) c (other-place (length t) p) (other-must (allowed LettersDigits b) (Unfit p) 22 (λ e. omega arith)))
+    (other-text kind (set t p b))
+other-request kind t (Exchange i j) =
+    other-then (placeStep (length t) i andThen placeStep (length t) j) (textStep kind (exchanged t i j))
+    (other-then (placeStep (length t) i) (placeStep (length t) j) (other-place (length t) i) (other-place (length t) j))
+    (other-text kind (exchanged t i j))
+other-request kind t Fill = tt
+
+remainder-number : (r k : ℕ) → numberOf (remainderStep r k orAccept 1) ≢ 20
+unfolding remainderStep _orAccept_
+remainder-number r k = go (eqb r 1)
+  where
+    go : (b : Bool) → numberOf (must b (Remainder r) k orAccept 1) ≢ 20
+    go true e = omega arith
+    go false e = omega arith
+
+pub not-twenty : (s : Sheet) (q : Request) → Fit (s .kind) (held s) → (x : Step) → requestSteps (s .kind) (held s) q ≡ x
+    → numberOf (repairBy x s (asked (s .kind) (held s) q) .answer) ≢ 20
+unfolding repairBy Other
+not-twenty s q f Pass e =
+    rw (fresh (s .kind) (asked (s .kind) (held s) q) (asked-fit (s .kind) (held s) q f e))
+    (remainder-number (remainderBy (s .kind) (asked (s .kind) (held s) q)) (lastCheck (s .kind)))
+not-twenty s q f (Stop r k) e = rw e at (other-request (s .kind) (held s) q)
+
+-- acceptance says that the remainder is 1
+one-of : (r k n : ℕ) → remainderStep r k orAccept 1 ≡ Accepted n → r ≡ 1
+unfolding remainderStep _orAccept_
+one-of r k n = go (eqb r 1) refl
+  where
+    go : (b : Bool) → eqb r 1 ≡ b → must b (Remainder r) k orAccept 1 ≡ Accepted n → r ≡ 1
+    go true p e = eqb-true r 1 p
+    go false p e = let z : _≡_ {A = ℕ} 0 1 = cc in absurd (omega arith)
+
+pub accepted-one : (kind : ℕ) (t : List ℕ) (n : ℕ) → Fit kind t → checkField kind t ≡ Accepted n → remainderBy kind t ≡ 1
+accepted-one kind t n f e = one-of (remainderBy kind t) (lastCheck kind) n (sym (fresh kind t f) ∙ e)
+
+pub one-accepted : (kind : ℕ) (t : List ℕ) → Fit kind t → remainderBy kind t ≡ 1 → checkField kind t ≡ Accepted 1
+unfolding remainderStep _orAccept_
+one-accepted kind t f e = fresh kind t f ∙ rw e
+
+-- the remainder after a slip, an exchange of a kind, and a fill
+pub slipped : (kind : ℕ) (t : List ℕ) (p b : ℕ) → p < length t → Slip (getD t p 0) b → remainderBy kind t ≡ 1 → remainderBy kind (set t p b) ≢ 1
+unfolding remainderBy
+slipped kind t p b h w = go (eqb kind 1)
+  where
+    go : (x : Bool) → pick x (ibanRemainder t) (remainderOf t) ≡ 1 → pick x (ibanRemainder (set t p b)) (remainderOf (set t p b)) ≢ 1
+    go true = iban-replaced-not-one t p b h w
+    go false = replaced-not-one t p b h w
+
+pub traded : (kind : ℕ) (t : List ℕ) (i j : ℕ) → i < length t → j < length t → length t ≤ 34 → Slip (getD t i 0) (getD t j 0)
+    → remainderBy kind t ≡ 1 → remainderBy kind (exchanged t i j) ≢ 1
+unfolding remainderBy
+traded kind t i j h k l w = go (eqb kind 1)
+  where
+    go : (x : Bool) → pick x (ibanRemainder t) (remainderOf t) ≡ 1 → pick x (ibanRemainder (exchanged t i j)) (remainderOf (exchanged t i j)) ≢ 1
+    go true = iban-exchanged-not-one t i j h k (omega arith) w
+    go false = exchanged-not-one t i j h k (omega arith) w
+
+iban-filled : (t : List ℕ) → Fit 1 t → remainderBy 1 (filled 1 t) ≡ 1
+unfolding remainderBy filled
+iban-filled t f = let l = fit-few 1 t f in iban-filled-one t (omega arith)
+
+lei-filled : (t : List ℕ) → Fit 2 t → remainderBy 2 (filled 2 t) ≡ 1
+unfolding remainderBy filled
+lei-filled t f = let e = eqb→eq (length t) 20 (f .long) in filled-one t 18 (omega arith)
+
+pub filled-remainder : (kind : ℕ) (t : List ℕ) → Fit kind t → remainderBy kind (filled kind t) ≡ 1
+filled-remainder kind t f = by-kind (λ k. Fit k t → remainderBy k (filled k t) ≡ 1) (iban-filled t) (lei-filled t) kind (f .known) f

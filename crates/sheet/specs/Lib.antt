@@ -1,0 +1,5 @@
+-- The definitions that the contracts of `sheet` cite.
+pub mod Sheets
+pub mod Load
+pub mod Repairs
+pub mod Calls

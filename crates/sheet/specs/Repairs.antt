@@ -1,0 +1,78 @@
+-- Document 01, "The repair sheet": what replace, exchange and fill make of the held text, and their refusals 20, 21 and 22 in this order.
+-- "Otherwise the repair is done and answers as a fresh check of the new text."
+-- Assumes nothing.
+use Prim.Native.Nat.{ℕ}
+use mathlib.Core.List.{List}
+use lib.Dec.{eqb, ltb}
+use lib.ListN.{length, set}
+use Rattle.answer.specs.Choice.{pick}
+use Rattle.answer.specs.Steps.{must, _andThen_}
+use Rattle.answer.specs.Table.{placeOfReason}
+use Rattle.answer.specs.declared.Reason.the-variants.{NoSheet, NoPlace, Unfit}
+use Rattle.answer.specs.declared.Step.{Step}
+use Rattle.answer.specs.declared.Step.the-variants.{Pass, Stop}
+use Rattle.text.specs.Class.{allowed}
+use Rattle.text.specs.declared.Set.the-variants.{LettersDigits}
+use Rattle.checkdigit.specs.Sum.{exchanged}
+use Rattle.checkdigit.specs.Fill.{checkDigits, stamped}
+use Rattle.field.specs.Field.{checkField}
+use Rattle.sheet.specs.Sheets.{characters, remainderBy, sheetOf, held}
+use Rattle.sheet.specs.Load.{refusal, standing}
+use Rattle.sheet.specs.declared.Sheet.{Sheet}
+use Rattle.sheet.specs.declared.Repaired.{Repaired}
+
+-- a byte at a place; the characters of two places; the check digits
+pub data Request : Type 0 where
+  Replace : ℕ → ℕ → Request
+  Exchange : ℕ → ℕ → Request
+  Fill : Request
+
+-- the check digits' first place: characters 3 and 4 of an IBAN, the last two of an LEI
+abbrev pub digitsPlace : ℕ → ℕ
+digitsPlace kind = pick (eqb kind 1) 2 18
+
+-- 98 less the remainder that digits 00 would give, in their place
+unfoldable pub filled : ℕ → List ℕ → List ℕ
+filled kind t = stamped t (digitsPlace kind) (checkDigits (remainderBy kind (stamped t (digitsPlace kind) 0)))
+
+-- the text with the repair made as asked
+unfoldable pub asked : ℕ → List ℕ → Request → List ℕ
+asked kind t (Replace place byte) = set t place byte
+asked kind t (Exchange i j) = exchanged t i j
+asked kind t Fill = filled kind t
+
+-- 21: a place is not below the length
+unfoldable pub placeStep : ℕ → ℕ → Step
+placeStep length place = must (ltb place length) (NoPlace place) 21
+
+-- 22: the byte is not an ASCII letter or digit, at the place given
+unfoldable pub byteStep : ℕ → ℕ → Step
+byteStep place byte = must (allowed LettersDigits byte) (Unfit place) 22
+
+-- 22: the new text would break a character step, at the first character that breaks it
+abbrev pub unfit : Step → Step
+unfit Pass = Pass
+unfit (Stop r k) = Stop (Unfit (placeOfReason r)) 23
+
+unfoldable pub textStep : ℕ → List ℕ → Step
+textStep kind t = unfit (characters kind t)
+
+-- the refusals that a text can give to a request
+unfoldable pub requestSteps : ℕ → List ℕ → Request → Step
+requestSteps kind t (Replace place byte) =
+    placeStep (length t) place andThen byteStep place byte andThen textStep kind (set t place byte)
+requestSteps kind t (Exchange i j) =
+    placeStep (length t) i andThen placeStep (length t) j andThen textStep kind (exchanged t i j)
+requestSteps kind t Fill = Pass
+
+-- 20: the sheet is empty or is not one that loading its own text would give
+unfoldable pub sheetStep : Sheet → Step
+sheetStep s = must (standing s) NoSheet 20
+
+-- the repair of a sheet to a new text, where the steps pass
+unfoldable pub repairBy : Step → Sheet → List ℕ → Repaired
+repairBy Pass s t = record { answer = checkField (s .kind) t; sheet = sheetOf (s .kind) t }
+repairBy (Stop r k) s t = refusal s r k
+
+unfoldable pub repairOf : Sheet → Request → Repaired
+repairOf s r = repairBy (sheetStep s andThen requestSteps (s .kind) (held s) r) s (asked (s .kind) (held s) r)

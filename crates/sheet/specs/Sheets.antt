@@ -1,0 +1,72 @@
+-- Document 01, "The repair sheet": "The held text of at most 34 characters goes in and comes back by value, with kind 1 or 2, length and
+-- remainder. .. The empty sheet is zero throughout, and bytes past the length are always zero."
+-- Assumes nothing.
+use Prim.Native.Nat.{ℕ, _≤_, _<_}
+use mathlib.Core.Path.{_≡_}
+use mathlib.Core.Bool.{Bool, true, false}
+use mathlib.Core.List.{List, [], _∷_}
+use lib.Dec.{T, eqb}
+use lib.ListN.{length, take, getD}
+use Rattle.answer.specs.Choice.{both, pick}
+use Rattle.answer.specs.declared.Step.{Step}
+use Rattle.text.specs.Ranges.{within}
+use Rattle.text.specs.Class.{allowed}
+use Rattle.text.specs.declared.Set.the-variants.{LettersDigits}
+use Rattle.checkdigit.specs.Sum.{remainderOf, ibanRemainder}
+use Rattle.iban.specs.Left.{left, textOf}
+use Rattle.iban.specs.Iban.{ibanCharacters}
+use Rattle.iban.specs.Held.{padded}
+use Rattle.lei.specs.Lei.{leiCharacters}
+use Rattle.sheet.specs.declared.Sheet.{Sheet}
+
+-- the kinds of a sheet
+abbrev pub sheetKind : ℕ → Bool
+sheetKind kind = within 1 2 kind
+
+-- "an IBAN is held without its blanks", an LEI as it stands
+unfoldable pub heldText : ℕ → List ℕ → List ℕ
+heldText kind s = pick (eqb kind 1) (textOf (left s)) s
+
+-- every step of the kind's rule but the remainder
+unfoldable pub characters : ℕ → List ℕ → Step
+characters kind s = pick (eqb kind 1) (ibanCharacters s) (leiCharacters s)
+
+-- the remainder of a held text
+unfoldable pub remainderBy : ℕ → List ℕ → ℕ
+remainderBy kind t = pick (eqb kind 1) (ibanRemainder t) (remainderOf t)
+
+-- the sheet that holds a text
+unfoldable pub sheetOf : ℕ → List ℕ → Sheet
+sheetOf kind t = record { kind = kind; length = length t; remainder = remainderBy kind t; text = padded 34 t }
+
+unfoldable pub emptySheet : Sheet
+emptySheet = record { kind = 0; length = 0; remainder = 0; text = padded 34 [] }
+
+-- the text that a sheet says it holds
+abbrev pub held : Sheet → List ℕ
+held s = take (s .length) (s .text)
+
+-- two sheets are equal in all four parts
+unfoldable pub sameText : List ℕ → List ℕ → Bool
+sameText [] [] = true
+sameText [] (b ∷ u) = false
+sameText (a ∷ t) [] = false
+sameText (a ∷ t) (b ∷ u) = both (eqb a b) (sameText t u)
+
+unfoldable pub sameSheet : Sheet → Sheet → Bool
+sameSheet a b =
+    both (eqb (a .kind) (b .kind))
+    (both (eqb (a .length) (b .length))
+    (both (eqb (a .remainder) (b .remainder))
+    (sameText (a .text) (b .text))))
+
+-- a text of letters and digits
+abbrev pub Plain : List ℕ → Type 0
+Plain t = (i : ℕ) → i < length t → T (allowed LettersDigits (getD t i 0))
+
+-- what a sheet's 34 bytes are after a repair, before the character steps: n letters and digits, and zeros past them
+pub record Written (kind n : ℕ) (text : List ℕ) : Type 0 where
+  pub known : T (sheetKind kind)
+  pub room : n ≤ 34
+  pub past : text ≡ padded 34 (take n text)
+  pub plain : Plain (take n text)
