@@ -1,10 +1,10 @@
-use denote.Ref.{now}
 -- `batch::pair_at` meets its contract: two bytes read one by one are the number that they write; each is below 256, so the sum fits.
 -- Assumes nothing.
 use Prim.Native.Nat.{_+_}
 use mathlib.Core.Path.{sym}
 use native.Mathlib.Omega.{arith}
 use Rattle.batch.proofs.Numbers.{two-at}
+use denote.Ref.{now}
 use borrow.Author.Needs.{needs}
 use Rattle.batch.proofs.pair_at.Statement.{statement}
 use Rattle.batch.proofs.pair_at.Tie as tie
