@@ -1,0 +1,8 @@
+-- The laws and theorems of `report`.
+pub mod Digits
+pub mod Arguments
+pub mod Littles
+pub mod Puts
+pub mod Texts
+pub mod Promises
+pub mod Worked

@@ -1,0 +1,58 @@
+-- A number's digits write the number, are the fewest that do, and have no leading zero but for 0 itself; the argument reads them back.
+-- Assumes nothing.
+use Prim.Native.Nat.{ℕ, _+_, _/_, _%_, _^_, _≤_, _<_}
+use mathlib.Core.Path.{_≡_, _∙_}
+use mathlib.Core.List.{List, [], _∷_, _++_}
+use native.Mathlib.Omega.{arith}
+use lib.Dec.{T}
+use lib.ListN.{length, getD, List·getD-append}
+use Rattle.text.specs.Class.{isDigit}
+use Rattle.text.specs.Decimal.{decimal, numberOf}
+use Rattle.text.proofs.Classes.{is-digit}
+use Rattle.text.proofs.Decimals.{number-append, fits}
+use Rattle.text.proofs.Ranges.{both-parts, both-of}
+use Rattle.report.specs.declared.Offset.the-variants.{Is}
+use Rattle.report.specs.Digits.{digitsOf}
+use Rattle.report.specs.Offset.{digitsOnly, offsetOf}
+use Rattle.report.proofs.Digits.{small, more, by-tens, least, most}
+use Rattle.report.proofs.Arguments.{only-passes, only-most, given}
+
+one-digit : (d : ℕ) → numberOf ((48 + d) ∷ []) ≡ d
+unfolding numberOf decimal
+one-digit d = omega arith
+
+pub reads-back : (x : ℕ) → numberOf (digitsOf x) ≡ x
+reads-back =
+    by-tens (λ x. numberOf (digitsOf x) ≡ x) (λ x h. rw (small x h) (one-digit x))
+    (λ x h i. rw (more x h, number-append (digitsOf (x / 10)) ((48 + x % 10) ∷ []), i, one-digit (x % 10)) (omega arith))
+
+only-append : (s t : List ℕ) → T (digitsOnly s) → T (digitsOnly t) → T (digitsOnly (s ++ t))
+only-append [] t p q = q
+only-append (b ∷ s) t p q =
+    let r = both-parts (isDigit b) (digitsOnly s) p in
+    both-of (isDigit b) (digitsOnly (s ++ t)) (r .0) (only-append s t (r .1) q)
+
+only-one : (d : ℕ) → d < 10 → T (digitsOnly ((48 + d) ∷ []))
+only-one d h = rw (is-digit (48 + d) (omega arith) (omega arith)) tt
+
+pub digits-only : (x : ℕ) → T (digitsOnly (digitsOf x))
+digits-only =
+    by-tens (λ x. T (digitsOnly (digitsOf x))) (λ x h. rw (small x h) (only-one x h))
+    (λ x h i. rw (more x h) (only-append (digitsOf (x / 10)) ((48 + x % 10) ∷ []) i (only-one (x % 10) (omega arith))))
+
+-- there is no leading zero but for 0 itself
+pub no-zero : (x : ℕ) → 0 < x → 48 < getD (digitsOf x) 0 0
+no-zero =
+    by-tens (λ x. 0 < x → 48 < getD (digitsOf x) 0 0) (λ x h p. rw (small x h) (omega arith))
+    (λ x h i p. rw (more x h, List·getD-append (digitsOf (x / 10)) ((48 + x % 10) ∷ []) 0 0 (omega (arith, least (x / 10)))) (i (omega arith)))
+
+-- and no digits that write a number are fewer
+pub fewest : (t : List ℕ) → T (digitsOnly t) → 1 ≤ length t → length (digitsOf (numberOf t)) ≤ length t
+fewest [] p h = absurd (omega arith)
+fewest (b ∷ t) p h = most (length t) (numberOf (b ∷ t)) (only-most (b ∷ t) 0 p)
+
+-- the argument that a number's digits are is that number
+pub argument : (x : ℕ) → x < 2 ^ 64 → offsetOf (digitsOf x) ≡ Is x
+argument x h =
+    given (digitsOf x) 0 (λ z. omega (arith, least x)) (only-passes (digitsOf x) 0 (digits-only x))
+    ∙ rw (reads-back x, ← fits x h)

@@ -1,0 +1,4 @@
+-- The definitions that the contracts of `report` cite.
+pub mod Digits
+pub mod Text
+pub mod Offset

@@ -1,0 +1,116 @@
+-- The program's text, after document 01, "The batch": the heading, a line for each verdict's 24 bytes, and the last line.
+-- Assumes nothing.
+use Prim.Native.Nat.{ℕ, zero, suc, _+_, _-_, _*_, _/_}
+use mathlib.Core.Path.{_≡_}
+use mathlib.Core.List.{List, [], _∷_, _++_}
+use lib.Dec.{ltb}
+use lib.ListN.{length, getD, take, drop}
+use Rattle.answer.specs.Choice.{pick}
+use Rattle.text.specs.Quote.{bytesOf}
+use Rattle.report.specs.declared.Rendered.{Rendered}
+use Rattle.report.specs.Digits.{digitsOf}
+
+-- the bytes of a verdict
+abbrev pub verdictSize : ℕ
+verdictSize = 24
+
+-- the number that n bytes at a place hold, "all little-endian"
+unfoldable pub littleAt : ℕ → List ℕ → ℕ → ℕ
+littleAt zero v at = 0
+littleAt (suc n) v at = getD v at 0 + 256 * littleAt n v (at + 1)
+
+-- what the verdict at the start of v says
+abbrev pub numbers : List ℕ → List ℕ
+numbers v =
+    littleAt 8 v 4 ∷  -- offset
+    littleAt 2 v 2 ∷  -- kind
+    littleAt 1 v 12 ∷  -- answer
+    littleAt 2 v 14 ∷  -- place
+    littleAt 8 v 16 ∷  -- number
+    []
+
+-- a number and the byte after it
+unfoldable pub field : ℕ → ℕ → List ℕ
+field x after = digitsOf x ++ (after ∷ [])
+
+-- numbers with a space between them and a newline after the last
+unfoldable pub row : List ℕ → List ℕ
+row [] = []
+row (x ∷ []) = field x 10
+row (x ∷ y ∷ xs) = field x 32 ++ row (y ∷ xs)
+
+-- the line of the verdict at the start of v
+unfoldable pub line : List ℕ → List ℕ
+line v = row (numbers v)
+
+-- the lines of the first k verdicts
+unfoldable pub text : ℕ → List ℕ → List ℕ
+text zero v = []
+text (suc k) v = line v ++ text k (drop verdictSize v)
+
+unfoldable pub heading : List ℕ
+heading = bytesOf "offset kind answer place number\n"
+
+-- a word, a number and the byte after it
+unfoldable pub named : List ℕ → ℕ → ℕ → List ℕ
+named word x after = word ++ field x after
+
+unfoldable pub lastLine : ℕ → ℕ → ℕ → List ℕ
+lastLine stop judged read = named (bytesOf "stop ") stop 32 ++ (named (bytesOf "judged ") judged 32 ++ named (bytesOf "read ") read 10)
+
+-- a text in a buffer from a place on, the rest as it was
+abbrev pub put : ℕ → List ℕ → List ℕ → List ℕ
+put at t out = take at out ++ (t ++ drop (at + length t) out)
+
+-- and from its start on
+abbrev pub atStart : List ℕ → List ℕ → List ℕ
+atStart t out = t ++ drop (length t) out
+
+-- t was written from `at` on, up to r
+pub record Put (at : ℕ) (t : List ℕ) (out₀ out : List ℕ) (r : ℕ) : Type 0 where
+  pub end : r ≡ at + length t
+  pub is : out ≡ put at t out₀
+
+-- the longest line: 20, 5, 3, 5 and 20 digits, and a byte after each number
+abbrev pub lineMost : ℕ
+lineMost = 58
+
+-- the longest last line: its three words, and 20 digits and a byte after each
+abbrev pub lastMost : ℕ
+lastMost = 80
+
+-- how many of n verdicts are written: a line is where the longest line has room
+unfoldable pub fitting : ℕ → ℕ → List ℕ → ℕ
+fitting zero room v = 0
+fitting (suc n) room v = pick (ltb room lineMost) 0 (suc (fitting n (room - length (line v)) (drop verdictSize v)))
+
+-- what is done with a lent buffer: the verdicts whose lines stand at its start, the lines' bytes, and the whole buffer
+pub record Rendering : Type 0 where
+  pub verdicts : ℕ
+  pub written : ℕ
+  pub out : List ℕ
+
+-- the lines of the first k verdicts at the start of a buffer
+abbrev pub rendering : ℕ → List ℕ → List ℕ → Rendering
+rendering k v out = record { verdicts = k; written = length (text k v); out = atStart (text k v) out }
+
+-- as many of the whole verdicts as have room
+unfoldable pub rendered : List ℕ → List ℕ → Rendering
+rendered v out = rendering (fitting (length v / verdictSize) (length out) v) v out
+
+abbrev pub seen : Rendered → List ℕ → Rendering
+seen r out = record { verdicts = r .verdicts; written = r .written; out = out }
+
+-- how many bytes of a buffer were written, and the whole buffer
+pub record Placed : Type 0 where
+  pub written : ℕ
+  pub out : List ℕ
+
+abbrev pub placed : ℕ → List ℕ → Placed
+placed n out = record { written = n; out = out }
+
+-- the last line at the start of a buffer that has room for the longest; in a shorter one nothing is written
+unfoldable pub ended : List ℕ → ℕ → ℕ → ℕ → Placed
+ended out stop judged read =
+    pick (ltb (length out) lastMost) (placed 0 out)
+    (placed (length (lastLine stop judged read)) (atStart (lastLine stop judged read) out))
