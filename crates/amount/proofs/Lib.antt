@@ -1,2 +1,3 @@
+-- The laws and theorems of `amount`.
 pub mod Zeros
 pub mod Worked

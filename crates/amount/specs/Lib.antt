@@ -1,1 +1,2 @@
+-- The definitions that the contracts of `amount` cite.
 pub mod Amount

@@ -1,2 +1,3 @@
+-- The laws and theorems of `common`.
 pub mod Reading
 pub mod Worked

@@ -1,1 +1,2 @@
+-- The definitions that the contracts of `common` cite.
 pub mod Cents

@@ -1,10 +1,9 @@
 -- `field::admit` meets its contract: the tests are the definition's, in its order.
 -- Assumes nothing.
-use mathlib.Core.Path.{_≡_, sym, _∙_}
 use borrow.Author.Tests.{le-leb, lt-leb, eq-eqb, ne-eqb}
+use borrow.Author.Needs.{needs}
 use Rattle.answer.specs.Steps.{_andThen_}
 use Rattle.field.specs.Field.{admission}
-use borrow.Author.Needs.{needs}
 use Rattle.field.proofs.admit.Statement.{statement}
 use Rattle.field.proofs.admit.Tie as tie
 

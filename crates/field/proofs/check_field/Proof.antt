@@ -1,7 +1,7 @@
 -- `field::check_field` meets its contract: the admission's word, and the rule's where it passes.
 -- Assumes nothing.
-use Rattle.field.specs.Field.{checkField}
 use borrow.Author.Needs.{needs}
+use Rattle.field.specs.Field.{checkField}
 use Rattle.field.proofs.check_field.Statement.{statement}
 use Rattle.field.proofs.check_field.Tie as tie
 

@@ -1,9 +1,9 @@
-use borrow.Author.Tests.{ne-eqb}
 -- `field::rule` meets its contract: each arm is a line of the table of kinds, and the last one no line of it.
 -- Assumes nothing.
+use borrow.Author.Tests.{ne-eqb}
+use borrow.Author.Needs.{needs}
 use Rattle.answer.proofs.Laws.{accept-is}
 use Rattle.field.specs.Field.{ruleOf}
-use borrow.Author.Needs.{needs}
 use Rattle.field.proofs.rule.Statement.{statement}
 use Rattle.field.proofs.rule.Tie as tie
 

@@ -1,8 +1,8 @@
 -- `iban::class_steps` meets its contract: the chain is the definition's, step by step.
 -- Assumes nothing.
+use borrow.Author.Needs.{needs}
 use Rattle.answer.proofs.Laws.{then-is}
 use Rattle.iban.specs.Held.{heldSteps}
-use borrow.Author.Needs.{needs}
 use Rattle.iban.proofs.class_steps.Statement.{statement}
 use Rattle.iban.proofs.class_steps.Tie as tie
 

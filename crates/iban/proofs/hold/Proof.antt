@@ -1,10 +1,10 @@
 -- `iban::hold` meets its contract: the first pass, the count, and the class steps on the held text, whose place is put back into the field.
 -- Assumes nothing.
-use mathlib.Core.Path.{_≡_, sym, _∙_, ap}
+use mathlib.Core.Path.{sym, _∙_}
 use native.Mathlib.Omega.{arith}
 use denote.Ref.{now}
-use Rattle.iban.proofs.Verdict.{Whole, whole, stopped, held-whole, held-wrong}
 use borrow.Author.Needs.{needs}
+use Rattle.iban.proofs.Verdict.{Whole, whole, stopped, held-whole, held-wrong}
 use Rattle.iban.proofs.hold.Statement.{statement}
 use Rattle.iban.proofs.hold.Tie as tie
 

@@ -1,12 +1,12 @@
-use Rattle.iban.proofs.Holding.{Keeping, length-padded, starts, past-blank, past-char, stray, ends}
-use mathlib.Core.Path.{_≡_, sym, _∙_, ap}
 -- `iban::keep` meets its contract. The invariant: what is held so far, and what is left of the field from there on, are what is left of it.
 -- Assumes nothing.
+use mathlib.Core.Path.{sym, _∙_, ap}
 use Prim.Native.Nat.{_-_}
 use native.Mathlib.Omega.{arith}
 use borrow.Author.Needs.{needs}
 use denote.Ref.{now}
 use lib.ListN.{length}
+use Rattle.iban.proofs.Holding.{Keeping, length-padded, starts, past-blank, past-char, stray, ends}
 use Rattle.utf8.proofs.Chars.{Stands, stands, chars-bad, chars-end}
 use Rattle.iban.proofs.keep.Statement.{statement}
 use Rattle.iban.proofs.keep.Tie as tie

@@ -1,7 +1,7 @@
 -- `iban::refused` meets its contract: no text where a step stopped.
 -- Assumes nothing.
-use Rattle.iban.specs.Held.{heldBy}
 use borrow.Author.Needs.{needs}
+use Rattle.iban.specs.Held.{heldBy}
 use Rattle.iban.proofs.refused.Statement.{statement}
 use Rattle.iban.proofs.refused.Tie as tie
 

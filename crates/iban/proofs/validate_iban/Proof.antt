@@ -1,14 +1,13 @@
 -- `iban::validate_iban` meets its contract: the character steps' word, and the sum's over the held text where they pass.
 -- Assumes nothing.
 use Prim.Native.Nat.{ℕ}
-use mathlib.Core.Path.{_≡_, sym, _∙_, ap}
+use mathlib.Core.Path.{sym, _∙_, ap}
 use native.Mathlib.Omega.{arith}
-use denote.Ref.{now}
+use borrow.Author.Needs.{needs}
 use Rattle.answer.proofs.Laws.{accept-is}
 use Rattle.checkdigit.specs.Sum.{ibanRemainder}
 use Rattle.checkdigit.specs.Verdict.{remainderStep}
-use Rattle.iban.proofs.Verdict.{room, step-is, text-is, sum-answers, step-answers}
-use borrow.Author.Needs.{needs}
+use Rattle.iban.proofs.Verdict.{room, text-is, sum-answers, step-answers}
 use Rattle.iban.proofs.validate_iban.Statement.{statement}
 use Rattle.iban.proofs.validate_iban.Tie as tie
 

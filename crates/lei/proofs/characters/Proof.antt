@@ -1,8 +1,8 @@
 -- `lei::characters` meets its contract: the chain is the definition's, step by step.
 -- Assumes nothing.
+use borrow.Author.Needs.{needs}
 use Rattle.answer.proofs.Laws.{then-is}
 use Rattle.lei.specs.Lei.{leiCharacters}
-use borrow.Author.Needs.{needs}
 use Rattle.lei.proofs.characters.Statement.{statement}
 use Rattle.lei.proofs.characters.Tie as tie
 

@@ -1,12 +1,12 @@
 -- `lei::validate_lei` meets its contract: the characters' word, and the sum's where they pass.
 -- Assumes nothing.
-use mathlib.Core.Path.{_≡_, sym, _∙_, ap}
+use mathlib.Core.Path.{_∙_, ap}
 use Prim.Native.Nat.{ℕ}
+use borrow.Author.Needs.{needs}
 use Rattle.answer.specs.Steps.{_andThen_, _orAccept_}
 use Rattle.answer.proofs.Laws.{accept-is}
 use Rattle.checkdigit.specs.Verdict.{remainderStep}
-use Rattle.lei.specs.Lei.{leiCharacters, leiAnswer}
-use borrow.Author.Needs.{needs}
+use Rattle.lei.specs.Lei.{leiAnswer}
 use Rattle.lei.proofs.validate_lei.Statement.{statement}
 use Rattle.lei.proofs.validate_lei.Tie as tie
 

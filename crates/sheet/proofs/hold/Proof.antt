@@ -1,11 +1,11 @@
-use Rattle.answer.specs.declared.Step.the-variants.{Pass, Stop}
 -- `sheet::hold` meets its contract: an IBAN as its rule holds it, an LEI as it stands.
 -- Assumes nothing.
 use mathlib.Core.Path.{_∙_, sym}
+use borrow.Author.Needs.{needs}
+use Rattle.answer.specs.declared.Step.the-variants.{Pass, Stop}
 use Rattle.iban.specs.Held.{heldBy}
 use Rattle.sheet.proofs.Fits.{lei-few}
 use Rattle.sheet.proofs.Loads.{hold-iban, hold-lei}
-use borrow.Author.Needs.{needs}
 use Rattle.sheet.proofs.hold.Statement.{statement}
 use Rattle.sheet.proofs.hold.Tie as tie
 

@@ -1,8 +1,8 @@
-use Rattle.answer.specs.declared.Step.the-variants.{Pass, Stop}
-use Rattle.sheet.proofs.Repairs.{text-step-is}
 -- `sheet::text_step` meets its contract: the word of the character steps, as refusal 22.
 -- Assumes nothing.
 use borrow.Author.Needs.{needs}
+use Rattle.answer.specs.declared.Step.the-variants.{Pass, Stop}
+use Rattle.sheet.proofs.Repairs.{text-step-is}
 use Rattle.sheet.proofs.text_step.Statement.{statement}
 use Rattle.sheet.proofs.text_step.Tie as tie
 

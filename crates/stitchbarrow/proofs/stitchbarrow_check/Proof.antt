@@ -1,9 +1,9 @@
-use Rattle.batch.specs.Verdict.{answerBytes}
 -- `stitchbarrow_check` meets its contract: the answer's bytes are copied over the front of the slice.
 -- Assumes nothing.
 use borrow.Author.Tests.{lt-ltb, le-ltb}
-use Rattle.stitchbarrow.specs.Reply.{answered, checkReply}
 use borrow.Author.Needs.{needs}
+use Rattle.batch.specs.Verdict.{answerBytes}
+use Rattle.stitchbarrow.specs.Reply.{answered, checkReply}
 use Rattle.stitchbarrow.proofs.stitchbarrow_check.Statement.{statement}
 use Rattle.stitchbarrow.proofs.stitchbarrow_check.Tie as tie
 

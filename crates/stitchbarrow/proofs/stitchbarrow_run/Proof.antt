@@ -1,11 +1,11 @@
-use native.Mathlib.Omega.{arith}
-use lib.ListN.{length-set}
-use Rattle.stitchbarrow.proofs.Laws.{three}
 -- `stitchbarrow_run` meets its contract: the call's outcome, and its three counts.
 -- Assumes nothing.
+use native.Mathlib.Omega.{arith}
+use lib.ListN.{length-set}
 use borrow.Author.Tests.{lt-ltb, le-ltb}
-use Rattle.stitchbarrow.specs.Reply.{runReply}
 use borrow.Author.Needs.{needs}
+use Rattle.stitchbarrow.proofs.Laws.{three}
+use Rattle.stitchbarrow.specs.Reply.{runReply}
 use Rattle.stitchbarrow.proofs.stitchbarrow_run.Statement.{statement}
 use Rattle.stitchbarrow.proofs.stitchbarrow_run.Tie as tie
 

@@ -5,13 +5,13 @@ use mathlib.Core.Path.{_≡_, sym, _∙_, ap}
 use mathlib.Core.Bool.{true}
 use native.Mathlib.Omega.{arith}
 use lib.ListN.{length, getD}
+use borrow.Author.Needs.{needs}
 use Rattle.answer.proofs.Laws.{stops, passes}
 use Rattle.text.specs.Class.{isDigit}
 use Rattle.text.specs.Decimal.{digitOf}
 use Rattle.text.specs.Field.{digitsIn}
 use Rattle.text.specs.declared.Set.the-variants.{Digits}
 use Rattle.text.proofs.Fields.{allowed-inside, pair-first, pair-second, pair-passes, pair-number}
-use borrow.Author.Needs.{needs}
 use Rattle.text.proofs.two_digits.Statement.{statement}
 use Rattle.text.proofs.two_digits.Tie as tie
 

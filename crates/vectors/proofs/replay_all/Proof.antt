@@ -1,8 +1,8 @@
-use borrow.Author.Needs.{needs}
 -- `vectors::replay_all` meets its contract: each line moves the place on.
 -- Assumes nothing.
+use borrow.Author.Needs.{needs}
 use Prim.Native.Nat.{_≤_, _-_}
-use mathlib.Core.Path.{_≡_, _∙_}
+use mathlib.Core.Path.{_≡_}
 use native.Mathlib.Omega.{arith}
 use lib.ListN.{length}
 use Rattle.vectors.proofs.replay_all.Statement.{statement}

@@ -3,7 +3,6 @@
 use Prim.Native.Nat.{_≤_, _-_, _*_}
 use mathlib.Core.Path.{_≡_}
 use native.Mathlib.Omega.{arith}
-use borrow.Author.Needs.{needs}
 use lib.ListN.{length, length-set}
 use Rattle.vectors.proofs.unhex.Statement.{statement}
 use Rattle.vectors.proofs.unhex.Tie as tie
