@@ -1,0 +1,3 @@
+-- The laws and theorems of `judge`.
+pub mod Laws
+pub mod Promises

@@ -1,0 +1,110 @@
+-- `run_from` is safe: the last line lies inside its buffer, and what was read is the offset less the first one.
+-- Assumes nothing.
+use mathlib.Core.Path.{sym}
+use lib.Seq.{length-take-le}
+use Rattle.report.proofs.Texts.{last-inside}
+use borrow.Author.Needs.{needs}
+use Rattle.judge.proofs.run_from.Statement.{statement}
+use Rattle.judge.proofs.run_from.Tie as tie
+
+heading-requires : tie.Need-heading-requires
+heading-requires c κs = search needs
+
+slice-aggregate-write-all : tie.Need-slice-aggregate-write-all
+slice-aggregate-write-all c = search needs
+
+write-all-requires : tie.Need-write-all-requires
+write-all-requires c κs = search needs
+
+slice-aggregate-fail : tie.Need-slice-aggregate-fail
+slice-aggregate-fail c = search needs
+
+fail-requires : tie.Need-fail-requires
+fail-requires c κs = search needs
+
+returns : tie.Need-returns
+returns c = search needs
+
+large-buffer-requires : tie.Need-large-buffer-requires
+large-buffer-requires c κs = search needs
+
+slice-aggregate-serve : tie.Need-slice-aggregate-serve
+slice-aggregate-serve c = search needs
+
+slice-aggregate-serve-2 : tie.Need-slice-aggregate-serve-2
+slice-aggregate-serve-2 c = search needs
+
+slice-aggregate-serve-3 : tie.Need-slice-aggregate-serve-3
+slice-aggregate-serve-3 c = search needs
+
+serve-requires : tie.Need-serve-requires
+serve-requires c κs = search needs
+
+slice-aggregate-last-line : tie.Need-slice-aggregate-last-line
+slice-aggregate-last-line c = search needs
+
+number-requires : tie.Need-number-requires
+number-requires c κs = search needs
+
+cast-last-line : tie.Need-cast-last-line
+cast-last-line c = search needs
+
+sub-last-line : tie.Need-sub-last-line
+sub-last-line c = search needs
+
+last-line-requires : tie.Need-last-line-requires
+last-line-requires c κs = search needs
+
+array-share-prefix-last : tie.Need-array-share-prefix-last
+array-share-prefix-last c = last-inside _ _ _ _ _ _ (c .before .last-line .ensures) (c .before .last-line .kept .0)
+
+slice-aggregate-write-all-2 : tie.Need-slice-aggregate-write-all-2
+slice-aggregate-write-all-2 c =
+    sym (length-take-le _ _ (last-inside _ _ _ _ _ _ (c .before .before .last-line .ensures) (c .before .before .last-line .kept .0)))
+
+write-all-requires-2 : tie.Need-write-all-requires-2
+write-all-requires-2 c κs = search needs
+
+slice-aggregate-fail-2 : tie.Need-slice-aggregate-fail-2
+slice-aggregate-fail-2 c = search needs
+
+fail-requires-2 : tie.Need-fail-requires-2
+fail-requires-2 c κs = search needs
+
+returns-2 : tie.Need-returns-2
+returns-2 c = search needs
+
+returns-3 : tie.Need-returns-3
+returns-3 c = search needs
+
+returns-4 : tie.Need-returns-4
+returns-4 c = search needs
+
+pub run-from-spec : {M : Type 1} → statement M
+run-from-spec =
+    tie.close
+    (tie.spec
+    heading-requires
+    slice-aggregate-write-all
+    write-all-requires
+    slice-aggregate-fail
+    fail-requires
+    returns
+    large-buffer-requires
+    slice-aggregate-serve
+    slice-aggregate-serve-2
+    slice-aggregate-serve-3
+    serve-requires
+    slice-aggregate-last-line
+    number-requires
+    cast-last-line
+    sub-last-line
+    last-line-requires
+    array-share-prefix-last
+    slice-aggregate-write-all-2
+    write-all-requires-2
+    slice-aggregate-fail-2
+    fail-requires-2
+    returns-2
+    returns-3
+    returns-4)

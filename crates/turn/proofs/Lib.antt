@@ -1,0 +1,5 @@
+-- The laws and theorems of `turn`.
+pub mod Laws
+pub mod Cutting
+pub mod Promises
+pub mod Worked

@@ -1,0 +1,4 @@
+-- The definitions that the contracts and promises of `turn` cite.
+pub mod Turn
+pub mod Stream
+pub mod Output
