@@ -34,10 +34,15 @@ extern "C" {
     fn stitchbarrow_check(kind: u16, value: *const u8, value_len: usize, answer: *mut u8, answer_len: usize) -> u8;
 }
 
+/// One call of the C interface.
+pub fn check(kind: u16, field: &[u8], answer: &mut [u8; 12]) -> u8 {
+    unsafe { stitchbarrow_check(kind, field.as_ptr(), field.len(), answer.as_mut_ptr(), answer.len()) }
+}
+
 /// Our answer to a field: number, place and value.
 pub fn answer(kind: u16, field: &[u8]) -> (u8, u16, u64) {
     let mut bytes = [0u8; 12];
-    let number = unsafe { stitchbarrow_check(kind, field.as_ptr(), field.len(), bytes.as_mut_ptr(), bytes.len()) };
+    let number = check(kind, field, &mut bytes);
     assert_eq!(number, bytes[0], "the answer's number is returned and written");
     assert_eq!(bytes[1], 0);
     (number, u16::from_le_bytes([bytes[2], bytes[3]]), u64::from_le_bytes(bytes[4..].try_into().unwrap()))
