@@ -1,10 +1,12 @@
-//! Both sides on the same generated fields: differential [SEED [FIELDS]], or differential --vectors SEED COUNT.
+//! Both sides on the same generated fields: differential [SEED [FIELDS]]. Of the same fields, differential --vectors SEED COUNT makes a list
+//! of the original's answers, and differential --batch SEED BYTES a batch.
 mod both;
 mod fields;
 include!(concat!(env!("OUT_DIR"), "/original.rs"));
 
 use both::{answer, original, ours, LIMIT};
 use fields::{boundaries, damaged, likely, short, Numbers};
+use std::io::{stdout, BufWriter, Write};
 
 /// Asks both sides, counts, and prints each difference with its bytes.
 struct Tally {
@@ -86,11 +88,36 @@ fn vectors(seed: u64, count: u64) {
     }
 }
 
+/// A batch of at least so many bytes, the kinds in turn: nine fields of ten are ones that the original accepts, the tenth is damaged.
+fn batch(seed: u64, bytes: u64) {
+    let mut numbers = Numbers(seed);
+    let mut output = BufWriter::new(stdout().lock());
+    let (mut written, mut kind) = (0, 0);
+    while written < bytes {
+        kind = kind % 10 + 1;
+        let mut field = likely(kind, &mut numbers);
+        if numbers.below(10) == 0 {
+            field = damaged(field, &mut numbers);
+        } else {
+            while original(kind, &field).is_none() {
+                field = likely(kind, &mut numbers);
+            }
+        }
+        output.write_all(&(field.len() as u16).to_le_bytes()).unwrap();
+        output.write_all(&kind.to_le_bytes()).unwrap();
+        output.write_all(&field).unwrap();
+        written += 4 + field.len() as u64;
+    }
+}
+
 fn main() {
     let words: Vec<String> = std::env::args().skip(1).collect();
     let number = |i: usize, or: u64| words.get(i).map_or(or, |w| w.parse().expect("a number"));
     if words.first().is_some_and(|w| w == "--vectors") {
         return vectors(number(1, 1), number(2, 4000));
+    }
+    if words.first().is_some_and(|w| w == "--batch") {
+        return batch(number(1, 1), number(2, 50_000_000));
     }
     let tally = compare(number(0, 1), number(1, 2_500_000));
     println!("{} accepted by the original", tally.accepted);
