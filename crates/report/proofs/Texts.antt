@@ -10,12 +10,13 @@ use native.Mathlib.Omega.{arith}
 use borrow.Author.Tests.{lt-ltb, le-ltb}
 use lib.Dec.{ltb}
 use lib.ListN.{length, take, drop, length-append, length-drop}
-use lib.Seq.{getD-drop, take-at, drop-append-le, drop-drop}
+use lib.Seq.{take-at, drop-append-le, drop-drop}
 use Rattle.answer.specs.Choice.{pick}
+use Rattle.batch.specs.Number.{numberAt}
+use Rattle.batch.specs.Verdict.{verdictSize}
+use Rattle.batch.proofs.Numbers.{number-append}
 use Rattle.report.specs.declared.Rendered.{Rendered}
 use Rattle.report.specs.Text.{
-  verdictSize,
-  littleAt,
   field,
   row,
   line,
@@ -35,7 +36,7 @@ use Rattle.report.specs.Text.{
   ended,
 }
 use Rattle.report.proofs.Digits.{most}
-use Rattle.report.proofs.Littles.{Bytes, little-most, little-front}
+use Rattle.report.proofs.Littles.{Bytes, bytes-drop, number-most}
 use Rattle.report.proofs.Puts.{length-field, to-end, then}
 
 pub text-snoc : (k : ℕ) (v : List ℕ) → text (suc k) v ≡ text k v ++ line (drop (verdictSize * k) v)
@@ -50,11 +51,11 @@ pub line-front : (v w : List ℕ) → verdictSize ≤ length v → line (v ++ w)
 unfolding line
 line-front v w h =
     rw (
-      little-front v w 8 4 (omega arith),
-      little-front v w 2 2 (omega arith),
-      little-front v w 1 12 (omega arith),
-      little-front v w 2 14 (omega arith),
-      little-front v w 8 16 (omega arith),
+      number-append v w 4 8 (omega arith),
+      number-append v w 2 2 (omega arith),
+      number-append v w 12 1 (omega arith),
+      number-append v w 14 2 (omega arith),
+      number-append v w 16 8 (omega arith),
     )
 
 no-bytes : (v : List ℕ) → length v ≡ 0 → v ≡ []
@@ -84,11 +85,11 @@ length-row a b c d e = simp length-append
 pub line-most : (v : List ℕ) → Bytes v → length (line v) ≤ lineMost
 unfolding line
 line-most v b =
-    let o = littleAt 8 v 4 in
-    let k = littleAt 2 v 2 in
-    let a = littleAt 1 v 12 in
-    let p = littleAt 2 v 14 in
-    let n = littleAt 8 v 16 in
+    let o = numberAt v 4 8 in
+    let k = numberAt v 2 2 in
+    let a = numberAt v 12 1 in
+    let p = numberAt v 14 2 in
+    let n = numberAt v 16 8 in
     omega (
       arith,
       length-row o k a p n,
@@ -97,15 +98,12 @@ line-most v b =
       length-field a 32,
       length-field p 32,
       length-field n 10,
-      most 19 o (omega (arith, little-most v b 8 4)),
-      most 4 k (omega (arith, little-most v b 2 2)),
-      most 2 a (omega (arith, little-most v b 1 12)),
-      most 4 p (omega (arith, little-most v b 2 14)),
-      most 19 n (omega (arith, little-most v b 8 16)),
+      most 19 o (omega (arith, number-most v b 4 8)),
+      most 4 k (omega (arith, number-most v b 2 2)),
+      most 2 a (omega (arith, number-most v b 12 1)),
+      most 4 p (omega (arith, number-most v b 14 2)),
+      most 19 n (omega (arith, number-most v b 16 8)),
     )
-
-pub bytes-drop : (v : List ℕ) (n : ℕ) → Bytes v → Bytes (drop n v)
-bytes-drop v n b i = rw getD-drop (b (n + i))
 
 -- how many lines have room
 pub fit-none : (n room : ℕ) (v : List ℕ) → room < lineMost → fitting n room v ≡ 0

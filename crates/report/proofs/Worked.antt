@@ -10,7 +10,6 @@ use Rattle.report.specs.declared.Offset.{Offset}
 use Rattle.report.specs.declared.Offset.the-variants.{Is, Not}
 use Rattle.report.specs.Digits.{digitsIn, digitsOf}
 use Rattle.report.specs.Text.{
-  littleAt,
   field,
   row,
   line,
@@ -65,5 +64,5 @@ pub worked : (whole ≡ bytesOf "offset kind answer place number\n0 7 0 0 0\n6 9
     ∷ [])
     × (lasts ≡ placed 0 (dots 79) ∷ placed 24 (bytesOf "stop 0 judged 2 read 17\n" ++ dots 56) ∷ [])
     × (offsets ≡ Is 0 ∷ Is 42 ∷ Is (2 ^ 64 - 1) ∷ Not ∷ Not ∷ Not ∷ Not ∷ Not ∷ Not ∷ Not ∷ [])
-unfolding digitsIn digitsOf littleAt field row line text heading named lastLine fitting rendered ended offsetOf classOf fitted numberOf decimal
+unfolding digitsIn digitsOf field row line text heading named lastLine fitting rendered ended offsetOf classOf fitted numberOf decimal
 worked = (refl, refl, refl, refl, refl)

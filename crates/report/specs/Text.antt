@@ -1,32 +1,25 @@
--- The program's text, after document 01, "The batch": the heading, a line for each verdict's 24 bytes, and the last line.
+-- The program's text, after document 01, "The batch": the heading, a line for each verdict, and the last line.
 -- Assumes nothing.
-use Prim.Native.Nat.{ℕ, zero, suc, _+_, _-_, _*_, _/_}
+use Prim.Native.Nat.{ℕ, zero, suc, _+_, _-_, _/_}
 use mathlib.Core.Path.{_≡_}
 use mathlib.Core.List.{List, [], _∷_, _++_}
 use lib.Dec.{ltb}
-use lib.ListN.{length, getD, take, drop}
+use lib.ListN.{length, take, drop}
 use Rattle.answer.specs.Choice.{pick}
 use Rattle.text.specs.Quote.{bytesOf}
+use Rattle.batch.specs.Number.{numberAt}
+use Rattle.batch.specs.Verdict.{verdictSize}
 use Rattle.report.specs.declared.Rendered.{Rendered}
 use Rattle.report.specs.Digits.{digitsOf}
-
--- the bytes of a verdict
-abbrev pub verdictSize : ℕ
-verdictSize = 24
-
--- the number that n bytes at a place hold, "all little-endian"
-unfoldable pub littleAt : ℕ → List ℕ → ℕ → ℕ
-littleAt zero v at = 0
-littleAt (suc n) v at = getD v at 0 + 256 * littleAt n v (at + 1)
 
 -- what the verdict at the start of v says
 abbrev pub numbers : List ℕ → List ℕ
 numbers v =
-    littleAt 8 v 4 ∷  -- offset
-    littleAt 2 v 2 ∷  -- kind
-    littleAt 1 v 12 ∷  -- answer
-    littleAt 2 v 14 ∷  -- place
-    littleAt 8 v 16 ∷  -- number
+    numberAt v 4 8 ∷  -- offset
+    numberAt v 2 2 ∷  -- kind
+    numberAt v 12 1 ∷  -- answer
+    numberAt v 14 2 ∷  -- place
+    numberAt v 16 8 ∷  -- number
     []
 
 -- a number and the byte after it

@@ -3,10 +3,10 @@ ghost use mathlib.Core.Path.{_≡_};
 ghost use Prim.Native.Nat.{_+_, _≤_};
 ghost use mathlib.Core.List.{[], _∷_};
 ghost use lib.ListN.{length};
+ghost use Rattle.batch.specs.Number.{numberAt};
+ghost use Rattle.batch.specs.Verdict.{verdictSize};
 ghost use Rattle.report.specs.Digits.{digitsOf};
 ghost use Rattle.report.specs.Text.{
-  verdictSize,
-  littleAt,
   field,
   row,
   line,
@@ -23,11 +23,8 @@ use answer::Step;
 use text::Number;
 use text::Set;
 
-// The bytes of a verdict.
-const VERDICT: usize = 24;
-
 // The longest line, and the longest last line.
-const LINE_MOST: usize = 58;
+pub const LINE_MOST: usize = 58;
 
 const LAST_MOST: usize = 80;
 
@@ -52,7 +49,7 @@ fn wide(x: u8) -> u64
 // The number that n bytes at a place hold, the lowest first.
 fn little(v: &[u8], at: usize, n: usize) -> u64
     requires { ⌜ (at + n ≤ length (now v)) × (n ≤ 8) ⌝ }
-    ensures { λ r. ⌜ r ≡ littleAt n (now (v .entry)) at ⌝ }
+    ensures { λ r. ⌜ r ≡ numberAt (now (v .entry)) at n ⌝ }
 {
     let mut x: u64 = 0;
     let mut k = n;
@@ -147,7 +144,7 @@ pub fn lines(verdicts: &[u8], out: &mut [u8]) -> Rendered
     let mut i = 0;
     let mut at = 0;
     loop {
-        if verdicts.len() - i < VERDICT {
+        if verdicts.len() - i < batch::VERDICT_SIZE {
             return Rendered {
                 verdicts: k,
                 written: at,
@@ -160,7 +157,7 @@ pub fn lines(verdicts: &[u8], out: &mut [u8]) -> Rendered
             };
         }
         at = put_line(out, at, &verdicts[i..]);
-        i += VERDICT;
+        i += batch::VERDICT_SIZE;
         k += 1;
     }
 }

@@ -20,7 +20,7 @@ use Rattle.batch.specs.Verdict.{answerBytes, verdict}
 use Rattle.batch.specs.Records.{recordsPast, sizes, verdictOf, verdictsOf}
 use Rattle.batch.proofs.Worked.{example}
 use Rattle.report.specs.Digits.{digitsIn, digitsOf}
-use Rattle.report.specs.Text.{littleAt, field, row, line, text, heading, named, lastLine}
+use Rattle.report.specs.Text.{field, row, line, text, heading, named, lastLine}
 use Rattle.turn.specs.Output.{outputOf}
 
 abbrev inputs : List (List ℕ)
@@ -32,5 +32,5 @@ pub worked : map (λ (b : List ℕ). outputOf b 0) inputs
     ∷ bytesOf "offset kind answer place number\n0 7 0 0 0\nstop 33 judged 1 read 6\n"
     ∷ bytesOf "offset kind answer place number\n0 7 0 0 0\n6 9 0 0 100050\nstop 35 judged 2 read 17\n"
     ∷ []
-unfolding present classOf decimal numberOf firstPlace lengthIs wrongFrom firstWrong leadOf needed wellFormed scalarOf charOf front charsPast widths validPrefix onList wellSpelt codeRule countries countryAnswer cents.parsed cents.below64 cents.digitsAt cents.numberAt cents.digits cents.whole cents.wholeNumber cents.past cents.fraction cents.worth cents.cents cents.parts cents.parseAmountCents admission ruleOf checkField _andThen_ _orAccept_ headOf answerBytes verdict recordsPast sizes verdictOf verdictsOf digitsIn digitsOf littleAt field row line text heading named lastLine outputOf
+unfolding present classOf decimal numberOf firstPlace lengthIs wrongFrom firstWrong leadOf needed wellFormed scalarOf charOf front charsPast widths validPrefix onList wellSpelt codeRule countries countryAnswer cents.parsed cents.below64 cents.digitsAt cents.numberAt cents.digits cents.whole cents.wholeNumber cents.past cents.fraction cents.worth cents.cents cents.parts cents.parseAmountCents admission ruleOf checkField _andThen_ _orAccept_ headOf answerBytes verdict recordsPast sizes verdictOf verdictsOf digitsIn digitsOf field row line text heading named lastLine outputOf
 worked = refl

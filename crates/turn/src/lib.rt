@@ -3,9 +3,6 @@ ghost use mathlib.Core.Path.{_≡_};
 ghost use Rattle.turn.specs.Turn.{roomOf, turnOf, seen};
 use batch::Stop;
 
-// The bytes of the longest line.
-const LINE_MOST: usize = 58;
-
 // Why the call stopped, records judged, bytes read, and bytes of text written.
 pub struct Turned {
     pub stop: Stop,
@@ -18,7 +15,7 @@ pub struct Turned {
 fn room(out: usize, text: usize) -> usize
     ensures { λ r. ⌜ r ≡ roomOf out text ⌝ }
 {
-    let most = text / LINE_MOST * batch::VERDICT_SIZE;
+    let most = text / report::LINE_MOST * batch::VERDICT_SIZE;
     if most < out { most } else { out }
 }
 

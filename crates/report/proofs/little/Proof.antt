@@ -5,13 +5,13 @@ use mathlib.Core.Path.{_≡_}
 use native.Mathlib.Nat.{add-zero, sub-zero}
 use native.Mathlib.Omega.{arith}
 use borrow.Author.Needs.{needs}
-use Rattle.report.specs.Text.{littleAt}
-use Rattle.report.proofs.Littles.{little-below, little-more}
+use Rattle.batch.specs.Number.{numberAt}
+use Rattle.report.proofs.Littles.{number-below, number-more}
 use Rattle.report.proofs.little.Statement.{statement}
 use Rattle.report.proofs.little.Tie as tie
 
 abbrev Inv-loop : tie.InvT-loop
-Inv-loop v at n x₀ k₀ x k = (k ≤ n) × (x ≡ littleAt (n - k) v (at + k))
+Inv-loop v at n x₀ k₀ x k = (k ≤ n) × (x ≡ numberAt v (at + k) (n - k))
 
 abbrev μ-loop : tie.MeasureT-loop
 μ-loop v at n x₀ k₀ x k = k
@@ -22,10 +22,9 @@ few c =
     let k = c .before .before .before in
     let a = k .before .before .args in
     rw (k .loop .inv .1)
-    (little-below (a .v .now) (λ i. c .before .shared-slice-known2 .given i .fits) (a .n - k .loop .k) 7 (a .at + k .loop .k) (omega arith))
+    (number-below (a .v .now) (λ i. c .before .shared-slice-known2 .given i .fits) (a .at + k .loop .k) (a .n - k .loop .k) 7 (omega arith))
 
 loop-holds : tie.Need-loop-holds Inv-loop μ-loop
-unfolding littleAt
 loop-holds c =
     let none : c .before .args .n - c .before .args .n ≡ 0 = omega arith in
     (omega arith, rw none)
@@ -55,7 +54,7 @@ loop-again : tie.Need-loop-again Inv-loop μ-loop
 loop-again c =
     let k = c .before .before .before in
     let a = k .before .before .args in
-    (omega arith, omega (arith, c .wide .ensures, k .loop .inv .1, little-more (a .v .now) (a .at) (a .n) (k .loop .k) (c .before .before .loop-test .taken) (k .loop .inv .0)))
+    (omega arith, omega (arith, c .wide .ensures, k .loop .inv .1, number-more (a .v .now) (a .at) (a .n) (k .loop .k) (omega arith) (c .before .before .loop-test .taken) (k .loop .inv .0)))
 
 returns : tie.Need-returns Inv-loop μ-loop
 returns c =
