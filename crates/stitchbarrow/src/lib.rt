@@ -1,22 +1,56 @@
 // The interface for C and other languages: functions over numbers and lent slices, as include/stitchbarrow.h declares them.
 ghost use mathlib.Core.Path.{_≡_};
-ghost use Rattle.stitchbarrow.specs.Reply.{Reply, checkReply, RunReply, runReply};
+ghost use mathlib.Core.List.{_++_};
+ghost use Prim.Native.Nat.{_^_, _≤_, _<_};
+ghost use lib.ListN.{length, drop};
+ghost use Rattle.batch.specs.Number.{toBytes, fromBytes};
+ghost use Rattle.sheet.specs.Load.{loadOf};
+ghost use Rattle.sheet.specs.Repairs.{repairOf};
+ghost use Rattle.sheet.specs.Repairs.Request.{Replace, Exchange, Fill};
+ghost use Rattle.stitchbarrow.specs.Sheets.{sheetSize, sheetAt, sheetBytes};
+ghost use Rattle.stitchbarrow.specs.Reply.{
+  answerSize,
+  Reply,
+  answered,
+  checkReply,
+  RunReply,
+  runReply,
+  SheetReply,
+  handed,
+  tooShort,
+  sheetReply,
+};
+use answer::Answer;
+use sheet::Repaired;
+use sheet::Sheet;
 
 // What a function returns where a lent slice is too short for what it would write.
 const TOO_SHORT: u8 = 255;
+
+// The bytes of an answer, and of a sheet.
+const ANSWER_SIZE: usize = 12;
+
+const SHEET_SIZE: usize = 46;
+
+// An answer, written to the first 12 bytes of `answer`.
+fn tell(a: Answer, answer: &mut [u8]) -> u8
+    requires { ⌜ answerSize ≤ length (now answer) ⌝ }
+    ensures { λ r. ⌜ record { code = r; bytes = now (answer .exit) } ≡ answered a (now (answer .entry)) ⌝ }
+{
+    let bytes = batch::answer_bytes(a);
+    bytes::copy(&bytes, answer);
+    a.number()
+}
 
 // The answer to a field, written to the first 12 bytes of `answer`.
 #[no_mangle]
 pub extern "C" fn stitchbarrow_check(kind: u16, value: &[u8], answer: &mut [u8]) -> u8
     ensures { λ r. ⌜ record { code = r; bytes = now (answer .exit) } ≡ checkReply kind (now (value .entry)) (now (answer .entry)) ⌝ }
 {
-    if answer.len() < 12 {
+    if answer.len() < ANSWER_SIZE {
         return TOO_SHORT;
     }
-    let a = field::check_field(kind, value);
-    let bytes = batch::answer_bytes(a);
-    bytes::copy(&bytes, answer);
-    a.number()
+    tell(field::check_field(kind, value), answer)
 }
 
 // A batch call; its counts (judged, read, written) are written to the first three elements of `counts`.
@@ -39,4 +73,148 @@ pub extern "C" fn stitchbarrow_run(
     counts[2] = ran.written as u64;
     let stop = ran.stop;
     stop.number()
+}
+
+fn wide(x: u8) -> u64
+    ensures { λ r. ⌜ r ≡ x ⌝ }
+{
+    x as u64
+}
+
+// The number that all of these bytes write, the lowest first.
+fn read_number(b: &[u8]) -> u64
+    requires { ⌜ length (now b) ≤ 8 ⌝ }
+    ensures { λ r. ⌜ (r ≡ fromBytes (now (b .entry))) × (r < 256 ^ length (now (b .entry))) ⌝ }
+{
+    let mut x: u64 = 0;
+    let mut i = b.len();
+    while 0 < i {
+        i -= 1;
+        x = wide(b[i]) + 256 * x;
+    }
+    x
+}
+
+// As many of a number's bytes as there is room for, the lowest first.
+fn write_number(b: &mut [u8], x: u64)
+    ensures { λ _. ⌜ now (b .exit) ≡ toBytes (length (now (b .entry))) x ⌝ }
+{
+    let mut rest = x;
+    let mut i = 0;
+    while i < b.len() {
+        b[i] = (rest % 256) as u8;
+        rest = rest / 256;
+        i += 1;
+    }
+}
+
+fn read_sheet(b: &[u8]) -> Sheet
+    requires { ⌜ sheetSize ≤ length (now b) ⌝ }
+    ensures { λ r. ⌜ r ≡ sheetAt (now (b .entry)) ⌝ }
+{
+    let kind = read_number(&b[0..2]) as u16;
+    let length = read_number(&b[2..4]) as usize;
+    let remainder = read_number(&b[4..12]);
+    let mut text = [0u8; 34];
+    bytes::copy(&b[12..46], &mut text);
+    Sheet {
+        kind,
+        length,
+        remainder,
+        text,
+    }
+}
+
+fn write_sheet(b: &mut [u8], s: Sheet)
+    requires { ⌜ sheetSize ≤ length (now b) ⌝ }
+    ensures { λ _. ⌜ now (b .exit) ≡ sheetBytes s ++ drop sheetSize (now (b .entry)) ⌝ }
+{
+    write_number(&mut b[0..2], s.kind as u64);
+    write_number(&mut b[2..4], s.length as u64);
+    write_number(&mut b[4..12], s.remainder);
+    let text = s.text;
+    bytes::copy(&text, &mut b[12..46]);
+}
+
+fn too_short(sheet: usize, answer: usize) -> bool
+    ensures { λ r. ⌜ r ≡ tooShort sheet answer ⌝ }
+{
+    if sheet < SHEET_SIZE {
+        return true;
+    }
+    answer < ANSWER_SIZE
+}
+
+// A load's or a repair's sheet and answer, written to the first bytes of their slices.
+fn hand_back(done: Repaired, sheet: &mut [u8], answer: &mut [u8]) -> u8
+    requires { ⌜ (sheetSize ≤ length (now sheet)) × (answerSize ≤ length (now answer)) ⌝ }
+    ensures { λ r. ⌜ record { code = r; sheet = now (sheet .exit); answer = now (answer .exit) } ≡ handed done (now (sheet .entry)) (now (answer .entry)) ⌝ }
+{
+    let new = done.sheet;
+    let a = done.answer;
+    write_sheet(sheet, new);
+    tell(a, answer)
+}
+
+// Loads a field; the sheet that stood there before is the one that a refusal returns.
+#[no_mangle]
+pub extern "C" fn stitchbarrow_load(
+    kind: u16,
+    value: &[u8],
+    sheet: &mut [u8],
+    answer: &mut [u8],
+) -> u8
+    ensures { λ r. ⌜ record { code = r; sheet = now (sheet .exit); answer = now (answer .exit) } ≡ sheetReply (loadOf kind (now (value .entry)) (sheetAt (now (sheet .entry)))) (now (sheet .entry)) (now (answer .entry)) ⌝ }
+{
+    if too_short(sheet.len(), answer.len()) {
+        return TOO_SHORT;
+    }
+    hand_back(sheet::load(kind, value, read_sheet(sheet)), sheet, answer)
+}
+
+// Puts a byte at a place of the held text.
+#[no_mangle]
+pub extern "C" fn stitchbarrow_replace(
+    sheet: &mut [u8],
+    place: usize,
+    byte: u8,
+    answer: &mut [u8],
+) -> u8
+    ensures { λ r. ⌜ record { code = r; sheet = now (sheet .exit); answer = now (answer .exit) } ≡ sheetReply (repairOf (sheetAt (now (sheet .entry))) (Replace place byte)) (now (sheet .entry)) (now (answer .entry)) ⌝ }
+{
+    if too_short(sheet.len(), answer.len()) {
+        return TOO_SHORT;
+    }
+    hand_back(
+        sheet::replace(read_sheet(sheet), place, byte),
+        sheet,
+        answer,
+    )
+}
+
+// Exchanges the characters at two places of the held text.
+#[no_mangle]
+pub extern "C" fn stitchbarrow_exchange(
+    sheet: &mut [u8],
+    i: usize,
+    j: usize,
+    answer: &mut [u8],
+) -> u8
+    ensures { λ r. ⌜ record { code = r; sheet = now (sheet .exit); answer = now (answer .exit) } ≡ sheetReply (repairOf (sheetAt (now (sheet .entry))) (Exchange i j)) (now (sheet .entry)) (now (answer .entry)) ⌝ }
+{
+    if too_short(sheet.len(), answer.len()) {
+        return TOO_SHORT;
+    }
+    hand_back(sheet::exchange(read_sheet(sheet), i, j), sheet, answer)
+}
+
+// Sets the check digits of the held text.
+#[no_mangle]
+pub extern "C" fn stitchbarrow_fill(sheet: &mut [u8], answer: &mut [u8]) -> u8
+    ensures { λ r. ⌜ record { code = r; sheet = now (sheet .exit); answer = now (answer .exit) } ≡ sheetReply (repairOf (sheetAt (now (sheet .entry))) Fill) (now (sheet .entry)) (now (answer .entry)) ⌝ }
+{
+    if too_short(sheet.len(), answer.len()) {
+        return TOO_SHORT;
+    }
+    hand_back(sheet::fill(read_sheet(sheet)), sheet, answer)
 }

@@ -1,0 +1,10 @@
+-- Calls one after the other on the same two slices: each reads the bytes that the one before it left.
+-- Assumes nothing.
+use mathlib.Core.List.{List, [], _∷_}
+use Rattle.sheet.specs.Repairs.{Request, repairOf}
+use Rattle.stitchbarrow.specs.Sheets.{sheetAt}
+use Rattle.stitchbarrow.specs.Reply.{SheetReply, sheetReply}
+
+unfoldable pub repliesAfter : SheetReply → List Request → SheetReply
+repliesAfter r [] = r
+repliesAfter r (q ∷ qs) = repliesAfter (sheetReply (repairOf (sheetAt (r .sheet)) q) (r .sheet) (r .answer)) qs
