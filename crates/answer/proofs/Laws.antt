@@ -7,6 +7,7 @@ use native.Mathlib.Omega.{arith}
 use lib.Dec.{T}
 use Rattle.answer.specs.declared.Reason.{Reason}
 use Rattle.answer.specs.declared.Answer.{Answer}
+use Rattle.answer.specs.declared.Answer.the-variants.{Accepted, Refused}
 use Rattle.answer.specs.declared.Step.{Step}
 use Rattle.answer.specs.declared.Step.the-variants.{Pass, Stop}
 use Rattle.answer.specs.Steps.{must, _andThen_, _orAccept_}
@@ -32,6 +33,12 @@ pub both-pass : (a b : Step) → a andThen b ≡ Pass → (a ≡ Pass) × (b ≡
 unfolding _andThen_
 both-pass Pass b e = (refl, e)
 both-pass (Stop r k) b e = let z : _≡_ {A = ℕ} 0 1 = cc in absurd (omega arith)
+
+-- a rule that accepts has passed each step
+pub accepted-pass : (a : Step) (m n : ℕ) → a orAccept m ≡ Accepted n → a ≡ Pass
+unfolding _orAccept_
+accepted-pass Pass m n e = refl
+accepted-pass (Stop r k) m n e = let z : _≡_ {A = ℕ} 0 1 = cc in absurd (omega arith)
 
 -- a test that let the chain pass held
 pub test-held : (t : Bool) (r : Reason) (k : ℕ) → must t r k ≡ Pass → T t

@@ -3,4 +3,5 @@ pub mod Ranges
 pub mod Classes
 pub mod Decimals
 pub mod Fields
+pub mod Low
 pub mod Worked
