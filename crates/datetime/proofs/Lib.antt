@@ -1,3 +1,4 @@
 -- The laws and theorems of `datetime`.
 pub mod Digits
+pub mod Accepted
 pub mod Worked
