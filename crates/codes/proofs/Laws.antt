@@ -1,7 +1,7 @@
 -- Laws of codes: a search of a table from a place on; codes of one length are equal where their numbers are; the answer of a field that
 -- is well spelt, and of one that is not.
 -- Assumes nothing.
-use Prim.Native.Nat.{ℕ, zero, suc, _+_, _-_, _*_, _≤_, _<_}
+use Prim.Native.Nat.{ℕ, zero, suc, _+_, _*_, _≤_, _<_}
 use mathlib.Core.Path.{_≡_, refl, sym, _∙_}
 use mathlib.Core.Bool.{Bool, true, false}
 use mathlib.Core.List.{List, [], _∷_, map}
@@ -13,18 +13,15 @@ use lib.ListN.{length, getD, take, drop, drop-of-length-le}
 use lib.Seq.{drop-cons, take-all}
 use Rattle.answer.specs.Choice.{both}
 use Rattle.answer.specs.Steps.{must, _andThen_, _orAccept_}
-use Rattle.answer.specs.declared.Answer.the-variants.{Refused}
+use Rattle.answer.specs.declared.Answer.the-variants.{Accepted, Refused}
 use Rattle.answer.specs.declared.Reason.{Reason}
-use Rattle.answer.specs.declared.Reason.the-variants.{Length, NotListed}
+use Rattle.answer.specs.declared.Reason.the-variants.{NotListed}
 use Rattle.answer.specs.declared.Step.{Step}
 use Rattle.answer.specs.declared.Step.the-variants.{Pass, Stop}
-use Rattle.answer.proofs.Laws.{stops, passes}
-use Rattle.text.specs.Field.{lengthIs, firstWrong}
+use Rattle.answer.proofs.Laws.{stops, passes, both-pass, accepted-pass}
 use Rattle.text.specs.declared.Set.the-variants.{Capitals}
 use Rattle.text.proofs.Ranges.{both-parts, both-of, every}
-use Rattle.text.proofs.Classes.{allowed-ends}
-use Rattle.text.proofs.Fields.{all-allowed}
-use Rattle.answer.proofs.Laws.{both-pass, test-held}
+use Rattle.text.proofs.Low.{Low, low-part, low-first, length-held}
 use Rattle.codes.specs.Codes.{any, same, onList, wellSpelt, codeRule, packedOn, packed, among}
 
 -- a search of a table, from a place on
@@ -109,17 +106,21 @@ every-of f (b ∷ s) h = both-of (f b) (every f s) (h 0 (omega arith)) (every-of
 module _ (kind n : ℕ) (s : List ℕ) where
   -- what the steps before the list have shown
   spelt-length : wellSpelt kind n s ≡ Pass → length s ≡ n
-  unfolding wellSpelt lengthIs
-  spelt-length e = eqb→eq (length s) n (test-held (eqb (length s) n) (Length 0 (length s)) (100 * kind + 2) (both-pass _ _ (both-pass _ _ (both-pass _ _ e .0) .0) .1))
+  unfolding wellSpelt
+  spelt-length e = length-held n s (100 * kind + 2) (both-pass _ _ (both-pass _ _ (both-pass _ _ e .0) .0) .1)
+
+  spelt-low : wellSpelt kind n s ≡ Pass → Low s 0 (length s)
+  unfolding wellSpelt
+  spelt-low e =
+      low-part s 0 n 0 (length s) (omega arith) (omega (arith, spelt-length e)) (low-first s Capitals 0 n (100 * kind + 4) (both-pass _ _ e .1))
 
   spelt-bytes : wellSpelt kind n s ≡ Pass → T (bytes s)
-  unfolding wellSpelt firstWrong
-  spelt-bytes e =
-      every-of (λ b. ltb b 256) s
-      (λ j h. let z : 0 + j ≡ j = omega arith in
-      let u = all-allowed Capitals s 0 (n - 0) (100 * kind + 4) (both-pass _ _ e .1) j (omega (arith, spelt-length e)) in
-      let v = allowed-ends Capitals (getD s j 0) (rw z at u) in
-      lt→ltb (getD s j 0) 256 (omega arith))
+  spelt-bytes e = every-of (λ b. ltb b 256) s (λ j h. lt→ltb (getD s j 0) 256 (omega (arith, spelt-low e j (omega arith) h)))
+
+  -- a code that is accepted is ASCII
+  pub code-low : (codes : List (List ℕ)) (m : ℕ) → codeRule kind n codes s ≡ Accepted m → Low s 0 (length s)
+  unfolding codeRule
+  code-low codes m e = spelt-low (both-pass _ _ (accepted-pass _ 0 m e) .0)
 
   -- a field that is not well spelt is refused by the step that says so
   pub misspelt : (codes : List (List ℕ)) (r : Reason) (k : ℕ) → wellSpelt kind n s ≡ Stop r k → Refused r k ≡ codeRule kind n codes s

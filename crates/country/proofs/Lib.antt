@@ -1,3 +1,4 @@
 -- The laws and theorems of `country`.
 pub mod Promises
+pub mod Accepted
 pub mod Worked

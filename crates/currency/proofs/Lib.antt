@@ -1,3 +1,4 @@
 -- The laws and theorems of `currency`.
 pub mod Promises
+pub mod Accepted
 pub mod Worked
