@@ -1,3 +1,4 @@
 -- The laws and theorems of `amount`.
 pub mod Zeros
+pub mod Accepted
 pub mod Worked

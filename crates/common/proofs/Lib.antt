@@ -1,3 +1,4 @@
 -- The laws and theorems of `common`.
 pub mod Reading
+pub mod Accepted
 pub mod Worked

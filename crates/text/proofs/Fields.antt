@@ -8,7 +8,7 @@ use native.Mathlib.Nat.{add-zero, lt-of-lt-of-le, pow-le-pow-right}
 use native.Mathlib.Numerals.{add-one}
 use native.Mathlib.Omega.{arith}
 use borrow.Author.Tests.{eq-eqb, ne-eqb}
-use lib.Dec.{T, eqb, leb, le→leb}
+use lib.Dec.{T, eqb, leb, le→leb, eqb→eq}
 use lib.ListN.{length, getD, take, drop, length-map, length-take, length-drop, drop-of-length-le}
 use lib.Seq.{drop-cons, getD-drop}
 use Rattle.answer.specs.Choice.{pick}
@@ -48,6 +48,17 @@ pub first-most : (b : ℕ) (s : List ℕ) → firstPlace b s ≤ length s
 unfolding firstPlace
 first-most b [] = omega arith
 first-most b (x ∷ s) = at-most (eqb x b) (firstPlace b s) (length s) (first-most b s)
+
+-- and where it is less, the byte stands there
+found-at : (t : Bool) (n b : ℕ) (s : List ℕ) (x : ℕ) → (T t → x ≡ b) → (n < length s → getD s n 0 ≡ b) → pick t 0 (suc n) < suc (length s)
+    → getD (x ∷ s) (pick t 0 (suc n)) 0 ≡ b
+found-at true n b s x e f h = e tt
+found-at false n b s x e f h = f (omega arith)
+
+pub first-found : (b : ℕ) (s : List ℕ) → firstPlace b s < length s → getD s (firstPlace b s) 0 ≡ b
+unfolding firstPlace
+first-found b [] h = absurd (omega arith)
+first-found b (x ∷ s) h = found-at (eqb x b) (firstPlace b s) b s x (eqb→eq x b) (first-found b s) h
 
 -- a byte that is not 0 stands inside
 pub inside : (s : List ℕ) (i : ℕ) → 0 < getD s i 0 → i < length s

@@ -14,11 +14,11 @@ use Rattle.answer.specs.declared.Step.{Step}
 use Rattle.answer.specs.declared.Step.the-variants.{Pass}
 use Rattle.answer.proofs.Laws.{both-pass, test-held}
 use Rattle.text.specs.Decimal.{numberOf}
-use Rattle.text.specs.Field.{lengthIs, wrongFrom, firstWrong, literalAt, inRange, digitsIn}
+use Rattle.text.specs.Field.{firstPlace, lengthIs, wrongFrom, firstWrong, literalAt, inRange, digitsIn}
 use Rattle.text.specs.declared.Set.{Set}
 use Rattle.text.specs.declared.Set.the-variants.{Digits}
 use Rattle.text.proofs.Classes.{allowed-ends}
-use Rattle.text.proofs.Fields.{all-allowed}
+use Rattle.text.proofs.Fields.{first-found, all-allowed}
 
 -- each byte from one place up to another is below 128
 abbrev pub Low : List ℕ → ℕ → ℕ → Type 0
@@ -30,6 +30,10 @@ module _ (s : List ℕ) where
 
   pub low-one : (at : ℕ) → getD s at 0 < 128 → Low s at (at + 1)
   low-one at h i f t = let e : i ≡ at = omega arith in rw e h
+
+  -- the first of a byte
+  pub low-place : (b : ℕ) → b < 128 → firstPlace b s < length s → Low s (firstPlace b s) (firstPlace b s + 1)
+  low-place b h k = low-one (firstPlace b s) (omega (arith, first-found b s k))
 
   -- two parts, the second from the end of the first or from a place before it
   pub low-join : (a b c d : ℕ) → c ≤ b → Low s a b → Low s c d → Low s a d
