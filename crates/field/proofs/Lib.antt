@@ -1,2 +1,3 @@
 -- The laws and theorems of `field`.
+pub mod Accepted
 pub mod Worked

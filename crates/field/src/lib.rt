@@ -1,5 +1,6 @@
 // The check of one field: the choice on the kind, with the steps that every field passes before its rule.
 ghost use mathlib.Core.Path.{_≡_};
+ghost use mathlib.Core.Logic.{_≢_};
 ghost use Rattle.field.specs.Field.{unknownStep, admission, ruleOf, checkField};
 use answer::Answer;
 use answer::Reason;
@@ -40,12 +41,12 @@ fn unknown(kind: u16) -> Step
     Step::Stop(Reason::UnknownKind { kind: kind as u64 }, 1)
 }
 
-// The rule of a kind.
+// The rule of a kind other than the IBAN's.
 fn rule(kind: u16, value: &[u8]) -> Answer
+    requires { ⌜ kind ≢ 1 ⌝ }
     ensures { λ r. ⌜ r ≡ ruleOf kind (now (value .entry)) ⌝ }
 {
     match kind {
-        1 => iban::validate_iban(value),
         2 => lei::validate_lei(value),
         3 => bic::validate_bic(value),
         4 => datetime::validate_iso_date(value),
@@ -59,11 +60,30 @@ fn rule(kind: u16, value: &[u8]) -> Answer
     }
 }
 
+// The IBAN's rule passes over blanks beyond ASCII, so that its field is admitted first.
+fn iban_field(value: &[u8]) -> Answer
+    ensures { λ r. ⌜ r ≡ checkField 1 (now (value .entry)) ⌝ }
+{
+    match admit(1, value) {
+        Step::Pass => iban::validate_iban(value),
+        Step::Stop(reason, check) => Answer::Refused(reason, check),
+    }
+}
+
+// The other rules accept ASCII only, so that a field is looked at for UTF-8 only where its rule refuses it.
 pub fn check_field(kind: u16, value: &[u8]) -> Answer
     ensures { λ r. ⌜ r ≡ checkField kind (now (value .entry)) ⌝ }
 {
-    match admit(kind, value) {
-        Step::Pass => rule(kind, value),
-        Step::Stop(reason, check) => Answer::Refused(reason, check),
+    if kind == 1 {
+        return iban_field(value);
+    }
+    if FIELD_LIMIT < value.len() {
+        return admit(kind, value).or_accept(0);
+    }
+    match rule(kind, value) {
+        Answer::Accepted(n) => Answer::Accepted(n),
+        Answer::Refused(reason, check) => admit(kind, value)
+            .then(Step::Stop(reason, check))
+            .or_accept(0),
     }
 }

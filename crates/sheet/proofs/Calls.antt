@@ -6,7 +6,6 @@ use mathlib.Core.Bool.{Bool, true, false}
 use mathlib.Core.List.{List}
 use mathlib.Core.Logic.{_≢_}
 use native.Mathlib.Omega.{arith}
-use borrow.Author.Tests.{eqb-true}
 use lib.Dec.{eqb, ltb, eqb→eq}
 use lib.ListN.{length, set, getD}
 use Rattle.answer.specs.Choice.{pick}
@@ -17,7 +16,7 @@ use Rattle.answer.specs.declared.Reason.{Reason}
 use Rattle.answer.specs.declared.Reason.the-variants.{NoPlace, Unfit, Remainder}
 use Rattle.answer.specs.declared.Step.{Step}
 use Rattle.answer.specs.declared.Step.the-variants.{Pass, Stop}
-use Rattle.answer.proofs.Laws.{passes}
+use Rattle.answer.proofs.Laws.{passes, accepted-pass, test-held}
 use Rattle.text.specs.Class.{allowed}
 use Rattle.text.specs.declared.Set.the-variants.{LettersDigits}
 use Rattle.checkdigit.specs.Letter.{Slip}
@@ -138,12 +137,8 @@ not-twenty s q f (Stop r k) e = rw e at (other-request (s .kind) (held s) q)
 
 -- acceptance says that the remainder is 1
 one-of : (r k n : ℕ) → remainderStep r k orAccept 1 ≡ Accepted n → r ≡ 1
-unfolding remainderStep _orAccept_
-one-of r k n = go (eqb r 1) refl
-  where
-    go : (b : Bool) → eqb r 1 ≡ b → must b (Remainder r) k orAccept 1 ≡ Accepted n → r ≡ 1
-    go true p e = eqb-true r 1 p
-    go false p e = let z : _≡_ {A = ℕ} 0 1 = cc in absurd (omega arith)
+unfolding remainderStep
+one-of r k n e = eqb→eq r 1 (test-held (eqb r 1) (Remainder r) k (accepted-pass _ 1 n e))
 
 pub accepted-one : (kind : ℕ) (t : List ℕ) (n : ℕ) → Fit kind t → checkField kind t ≡ Accepted n → remainderBy kind t ≡ 1
 accepted-one kind t n f e = one-of (remainderBy kind t) (lastCheck kind) n (sym (fresh kind t f) ∙ e)

@@ -1,4 +1,4 @@
--- `field::rule` meets its contract: each arm is a line of the table of kinds, and the last one no line of it.
+-- `field::rule` meets its contract: each arm is a line of the table of kinds below the IBAN's, and the last one no line of it.
 -- Assumes nothing.
 use borrow.Author.Tests.{ne-eqb}
 use borrow.Author.Needs.{needs}
@@ -6,9 +6,6 @@ use Rattle.answer.proofs.Laws.{accept-is}
 use Rattle.field.specs.Field.{ruleOf}
 use Rattle.field.proofs.rule.Statement.{statement}
 use Rattle.field.proofs.rule.Tie as tie
-
-validate-iban-requires : tie.Need-validate-iban-requires
-validate-iban-requires c κs = search needs
 
 validate-lei-requires : tie.Need-validate-lei-requires
 validate-lei-requires c κs = search needs
@@ -45,56 +42,52 @@ or-accept-requires c κs = search needs
 
 returns : tie.Need-returns
 unfolding ruleOf
-returns c = rw (c .before .match .keys1) (c .validate-iban .ensures)
+returns c = rw (c .before .match .keys1) (c .validate-lei .ensures)
 
 returns-2 : tie.Need-returns-2
 unfolding ruleOf
-returns-2 c = rw (c .before .match .keys2) (c .validate-lei .ensures)
+returns-2 c = rw (c .before .match .keys2) (c .validate-bic .ensures)
 
 returns-3 : tie.Need-returns-3
 unfolding ruleOf
-returns-3 c = rw (c .before .match .keys3) (c .validate-bic .ensures)
+returns-3 c = rw (c .before .match .keys3) (c .validate-iso-date .ensures)
 
 returns-4 : tie.Need-returns-4
 unfolding ruleOf
-returns-4 c = rw (c .before .match .keys4) (c .validate-iso-date .ensures)
+returns-4 c = rw (c .before .match .keys4) (c .validate-iso-datetime .ensures)
 
 returns-5 : tie.Need-returns-5
 unfolding ruleOf
-returns-5 c = rw (c .before .match .keys5) (c .validate-iso-datetime .ensures)
+returns-5 c = rw (c .before .match .keys5) (c .validate-amount .ensures)
 
 returns-6 : tie.Need-returns-6
 unfolding ruleOf
-returns-6 c = rw (c .before .match .keys6) (c .validate-amount .ensures)
+returns-6 c = rw (c .before .match .keys6) (c .validate-country .ensures)
 
 returns-7 : tie.Need-returns-7
 unfolding ruleOf
-returns-7 c = rw (c .before .match .keys7) (c .validate-country .ensures)
+returns-7 c = rw (c .before .match .keys7) (c .validate-currency .ensures)
 
 returns-8 : tie.Need-returns-8
 unfolding ruleOf
-returns-8 c = rw (c .before .match .keys8) (c .validate-currency .ensures)
+returns-8 c = rw (c .before .match .keys8) (c .parse-amount-cents .ensures)
 
 returns-9 : tie.Need-returns-9
 unfolding ruleOf
-returns-9 c = rw (c .before .match .keys9) (c .parse-amount-cents .ensures)
+returns-9 c = rw (c .before .match .keys9) (c .parse-amount-cents-lenient .ensures)
 
 returns-10 : tie.Need-returns-10
 unfolding ruleOf
-returns-10 c = rw (c .before .match .keys10) (c .parse-amount-cents-lenient .ensures)
-
-returns-11 : tie.Need-returns-11
-unfolding ruleOf
-returns-11 c =
-    let r = c .before .before .match .rest in
-    rw (ne-eqb _ 1 (r .0 .0 .0 .0 .0 .0 .0 .0 .0 .1), ne-eqb _ 2 (r .0 .0 .0 .0 .0 .0 .0 .0 .1), ne-eqb _ 3 (r .0 .0 .0 .0 .0 .0 .0 .1), ne-eqb _ 4 (r .0 .0 .0 .0 .0 .0 .1), ne-eqb _ 5 (r .0 .0 .0 .0 .0 .1), ne-eqb _ 6 (r .0 .0 .0 .0 .1), ne-eqb _ 7 (r .0 .0 .0 .1), ne-eqb _ 8 (r .0 .0 .1), ne-eqb _ 9 (r .0 .1), ne-eqb _ 10 (r .1))
+returns-10 c =
+    let m = c .before .before in
+    let r = m .match .rest in
+    rw (ne-eqb _ 1 (m .before .before .pre), ne-eqb _ 2 (r .0 .0 .0 .0 .0 .0 .0 .0 .1), ne-eqb _ 3 (r .0 .0 .0 .0 .0 .0 .0 .1), ne-eqb _ 4 (r .0 .0 .0 .0 .0 .0 .1), ne-eqb _ 5 (r .0 .0 .0 .0 .0 .1), ne-eqb _ 6 (r .0 .0 .0 .0 .1), ne-eqb _ 7 (r .0 .0 .0 .1), ne-eqb _ 8 (r .0 .0 .1), ne-eqb _ 9 (r .0 .1), ne-eqb _ 10 (r .1))
     (accept-is 0 (c .or-accept .ensures) (c .before .unknown .ensures))
 
 pub rule-spec : {M : Type 1} → statement M
 rule-spec =
     tie.close
     (tie.spec
-    validate-iban-requires
     validate-lei-requires
     validate-bic-requires
     validate-iso-date-requires
@@ -115,5 +108,4 @@ rule-spec =
     returns-7
     returns-8
     returns-9
-    returns-10
-    returns-11)
+    returns-10)
