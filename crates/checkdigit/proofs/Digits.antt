@@ -14,7 +14,6 @@ use Rattle.answer.specs.Choice.{pick}
 use Rattle.text.specs.Class.{isDigit}
 use Rattle.text.specs.Decimal.{decimal}
 use Rattle.text.proofs.Decimals.{decimal-append}
-use Rattle.checkdigit.specs.Letter.{letterValue}
 use Rattle.checkdigit.specs.Sum.{
   valueOf,
   digitsOf,
@@ -116,17 +115,16 @@ more r t i x n h p q =
     ∙ continued-append r (take i t) (b ∷ [])
     ∙ ap (continued r) (sym (take-suc t i 0 h) ∙ ap (λ (m : ℕ). take m t) (sym (add-one i)))
 
-after-one : (n b : ℕ) → numberAfter n (b ∷ []) ≡ n * 10 ^ pick (isDigit b) 1 2 + valueOf b
+pub after-one : (n b : ℕ) → n * 10 ^ count b + valueOf b ≡ numberAfter n (b ∷ [])
 unfolding numberAfter expand
-after-one n b = simp (append-nil, char-count, char-value)
+after-one n b = simp (append-nil, char-value)
 
-pub after-digit : (n b : ℕ) → isDigit b ≡ true → n * 10 + (b - 48) ≡ numberAfter n (b ∷ [])
-unfolding valueOf
-after-digit n b d = rw (after-one n b, d)
+-- the room for a character's digits
+pub room-digit : (b : ℕ) → isDigit b ≡ true → 10 ≡ 10 ^ count b
+room-digit b d = rw (char-count b, d)
 
-pub after-other : (n b : ℕ) → isDigit b ≡ false → n * 100 + letterValue b ≡ numberAfter n (b ∷ [])
-unfolding valueOf
-after-other n b d = rw (after-one n b, d)
+pub room-other : (b : ℕ) → isDigit b ≡ false → 100 ≡ 10 ^ count b
+room-other b d = rw (char-count b, d)
 
 pub remainder-low : (t : List ℕ) → remainderOf t < 97
 unfolding remainderOf

@@ -2,22 +2,41 @@
 -- of a character and not the count of its digits.
 -- Assumes nothing.
 use mathlib.Core.Path.{_≡_}
-use mathlib.Core.Bool.{true, false}
+use mathlib.Core.Bool.{Bool, true, false}
+use mathlib.Core.List.{[], _∷_}
 use mathlib.Core.Logic.{_≢_, ⊎-elim}
-use Prim.Native.Nat.{ℕ, _<_}
+use Prim.Native.Nat.{ℕ, _+_, _*_, _^_, _<_}
 use native.Mathlib.Omega.{arith}
 use lib.Dec.{T}
-use Rattle.answer.specs.Choice.{both}
+use Rattle.answer.specs.Choice.{both, pick}
 use Rattle.text.specs.Class.{isDigit, isLetter}
+use Rattle.text.specs.Decimal.{digitOf}
 use Rattle.text.proofs.Ranges.{both-parts, either-parts}
 use Rattle.text.proofs.Classes.{is-digit, above-digits, digit-ends, letter-ends}
 use Rattle.checkdigit.specs.Letter.{letterValue, Slip}
-use Rattle.checkdigit.specs.Sum.{valueOf}
-use Rattle.checkdigit.proofs.Digits.{count, char-count}
+use Rattle.checkdigit.specs.Sum.{valueOf, numberAfter}
+use Rattle.checkdigit.proofs.Digits.{count, char-count, after-one}
 
-pub byte-value : (b : ℕ) → b < 256 → letterValue b < 256
+byte-value : (b : ℕ) → b < 256 → letterValue b < 256
 unfolding letterValue
 byte-value b h = omega arith
+
+-- a byte's digits after a number's
+module _ (b : ℕ) (byte : b < 256) where
+  value-most : valueOf b < 256
+  unfolding valueOf
+  value-most = go (isDigit b)
+    where
+      go : (d : Bool) → pick d (digitOf b) (letterValue b) < 256
+      go true = omega arith
+      go false = byte-value b byte
+
+  pub after-most : (n : ℕ) → numberAfter n (b ∷ []) < n * 100 + 256
+  after-most n = rw (← after-one n b, char-count b) (go (isDigit b))
+    where
+      go : (d : Bool) → n * 10 ^ pick d 1 2 + valueOf b < n * 100 + 256
+      go true = omega (arith, value-most)
+      go false = omega (arith, value-most)
 
 letter-low : (b : ℕ) → T (isLetter b) → letterValue b < 97
 unfolding letterValue

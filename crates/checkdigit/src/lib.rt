@@ -1,9 +1,10 @@
 // ISO 7064 MOD 97-10 over the characters of a text: the running remainder, that of an LEI and of an IBAN, and the check digits.
 ghost use mathlib.Core.Path.{_≡_};
 ghost use mathlib.Core.List.{[], _∷_};
-ghost use Prim.Native.Nat.{_<_, _^_};
+ghost use Prim.Native.Nat.{_<_, _^_, _%_};
+ghost use lib.ListN.{length};
 ghost use Rattle.checkdigit.specs.Letter.{letterValue};
-ghost use Rattle.checkdigit.specs.Sum.{numberAfter, continued, remainderOf, ibanRemainder, Remains};
+ghost use Rattle.checkdigit.specs.Sum.{valueOf, digitsOf, numberAfter, continued, remainderOf, ibanRemainder, Remains};
 ghost use Rattle.checkdigit.specs.Fill.{Fills};
 ghost use Rattle.checkdigit.specs.Verdict.{remainderStep};
 use answer::Reason;
@@ -21,15 +22,39 @@ fn letter_value(b: u8) -> u64
     if b < 55 { 0 } else { wide(b - 55) }
 }
 
-// A character's digits after a number's: one for a digit, two for any other character.
+fn value(b: u8) -> u64
+    ensures { λ r. ⌜ r ≡ valueOf b ⌝ }
+{
+    match b {
+        b'0'..=b'9' => wide(b - 48),
+        _ => letter_value(b),
+    }
+}
+
+// What a number is multiplied by to make room for a character's digits: one for a digit, two for any other character.
+fn scale(b: u8) -> u64
+    ensures { λ r. ⌜ r ≡ 10 ^ length (digitsOf b) ⌝ }
+{
+    match b {
+        b'0'..=b'9' => 10,
+        _ => 100,
+    }
+}
+
+// A character's digits after a number's. The two choices do not wait for the number.
 fn step(n: u64, b: u8) -> u64
     requires { ⌜ n < 10 ^ 17 ⌝ }
     ensures { λ r. ⌜ r ≡ numberAfter n (b ∷ []) ⌝ }
 {
-    match b {
-        b'0'..=b'9' => n * 10 + wide(b - 48),
-        _ => n * 100 + letter_value(b),
-    }
+    n * scale(b) + value(b)
+}
+
+// The remainder of a number so small that n / 97 is n * 10811 / 2^20: a division by 97 itself takes longer.
+fn rest(n: u64) -> u64
+    requires { ⌜ n < 10000 ⌝ }
+    ensures { λ r. ⌜ r ≡ n % 97 ⌝ }
+{
+    n - n * 10811 / 1_048_576 * 97
 }
 
 // The remainder of r's digits with the text's after them, one character at a time.
@@ -39,7 +64,7 @@ pub fn mod97(r: u64, t: &[u8]) -> u64
     let mut remainder = r % 97;
     let mut i = 0;
     while i < t.len() {
-        remainder = step(remainder, t[i]) % 97;
+        remainder = rest(step(remainder, t[i]));
         i += 1;
     }
     remainder

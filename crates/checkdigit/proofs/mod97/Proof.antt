@@ -3,10 +3,11 @@
 use mathlib.Core.Path.{_≡_, _∙_, ap}
 use Prim.Native.Nat.{_≤_, _<_, _-_}
 use native.Mathlib.Omega.{arith}
-use lib.ListN.{length, take}
+use lib.ListN.{length, take, getD}
 use lib.Seq.{take-all}
 use Rattle.checkdigit.specs.Sum.{continued}
 use Rattle.checkdigit.proofs.Digits.{more, continued-none}
+use Rattle.checkdigit.proofs.Letters.{after-most}
 use Rattle.checkdigit.proofs.mod97.Statement.{statement}
 use Rattle.checkdigit.proofs.mod97.Tie as tie
 
@@ -25,6 +26,13 @@ shared-slice-read-step c = omega arith
 step-requires : tie.Need-step-requires Inv-loop μ-loop
 step-requires c κs = omega arith
 
+rest-requires : tie.Need-rest-requires Inv-loop μ-loop
+rest-requires c κs =
+    let l = c .before .before .before in
+    let b = getD (l .before .before .args .t .now) (l .loop .i) 0 in
+    let byte : b < 256 = omega (arith, c .before .shared-slice-known2 .given (l .loop .i)) in
+    omega (arith, c .step .ensures, after-most b byte (l .loop .remainder))
+
 add-i : tie.Need-add-i Inv-loop μ-loop
 add-i c = omega arith
 
@@ -33,10 +41,10 @@ loop-less c = omega arith
 
 loop-again : tie.Need-loop-again Inv-loop μ-loop
 loop-again c =
-    let l = c .before .before .before .loop in (
+    let l = c .before .before .before .before .loop in (
       omega arith,
       omega arith,
-      more _ _ (l .i) (l .remainder) _ (c .before .before .loop-test .taken) (l .inv .2) (c .step .ensures),
+      c .rest .ensures ∙ more _ _ (l .i) (l .remainder) _ (c .before .before .before .loop-test .taken) (l .inv .2) (c .before .step .ensures),
     )
 
 returns : tie.Need-returns Inv-loop μ-loop
@@ -49,4 +57,4 @@ returns c =
 
 pub mod97-spec : {M : Type 1} → statement M
 mod97-spec =
-    tie.close (tie.spec Inv-loop μ-loop loop-holds shared-slice-read-step step-requires add-i loop-less loop-again returns)
+    tie.close (tie.spec Inv-loop μ-loop loop-holds shared-slice-read-step step-requires rest-requires add-i loop-less loop-again returns)
