@@ -1,7 +1,7 @@
 -- Laws of characters: where one stands in a text, how wide it is, and what follows it.
 -- Assumes nothing.
 use Prim.Native.Nat.{ℕ, zero, suc, _+_, _≤_, _<_}
-use mathlib.Core.Path.{_≡_, refl, ap, _∙_}
+use mathlib.Core.Path.{_≡_, refl, sym, ap, _∙_}
 use mathlib.Core.Bool.{Bool, true, false}
 use mathlib.Core.List.{List, [], _∷_}
 use mathlib.Core.Logic.{_⊎_, inl, inr, ⊎-elim}
@@ -145,3 +145,7 @@ stands s at c w h e =
       inside = omega (arith, length-drop at s);
       first = chars-char (drop at s) c w e ∙ ap (λ (l : List ℕ). ch c w ∷ chars l) (drop-drop w at s);
     }
+
+-- a byte below 128 stands for itself
+pub ascii-stands : (s : List ℕ) (at : ℕ) → at < length s → getD s at 0 < 128 → Stands s at (getD s at 0) 1
+ascii-stands s at h small = stands s at (getD s at 0) 1 (omega arith) (sym (ascii-at s at (getD s at 0) (getD s at 0) h refl small refl))

@@ -171,12 +171,16 @@ pub fn is_ascii(s: &[u8]) -> bool
     highest < 128
 }
 
-// The prefix, one character after the other.
+// The prefix, one character after the other. An ASCII byte is passed without a call.
 fn walked_prefix(s: &[u8]) -> usize
     ensures { λ r. ⌜ r ≡ validPrefix (now (s .entry)) ⌝ }
 {
     let mut at = 0;
     while at < s.len() {
+        if s[at] < 128 {
+            at += 1;
+            continue;
+        }
         match decode(s, at) {
             Decoded::Char { scalar: _, width } => {
                 at += width;

@@ -1,13 +1,13 @@
 -- `iban::keep_ascii` meets its contract: as `keep`, with each byte a character of its own.
 -- Assumes nothing.
 use Prim.Native.Nat.{_-_, _%_, _<_}
-use mathlib.Core.Path.{_≡_, refl, sym, _∙_, ap}
+use mathlib.Core.Path.{_≡_, sym, _∙_, ap}
 use native.Mathlib.Omega.{arith}
 use denote.Ref.{now}
 use lib.ListN.{length, getD}
 use Rattle.utf8.specs.Space.{whiteSpace}
 use Rattle.utf8.proofs.Ascii.{ascii-below}
-use Rattle.utf8.proofs.Chars.{Stands, stands, ascii-at, chars-end}
+use Rattle.utf8.proofs.Chars.{Stands, ascii-stands, chars-end}
 use Rattle.iban.proofs.Holding.{Keeping, length-padded, starts, past-blank, past-char, ends}
 use Rattle.iban.proofs.keep_ascii.Statement.{statement}
 use Rattle.iban.proofs.keep_ascii.Tie as tie
@@ -24,7 +24,7 @@ small c = ascii-below _ (c .before .before .before .before .before .pre) _ (c .b
 
 char : (c : tie.After-shared-slice-known2 Inv-loop μ-loop)
     → Stands (now (c .before .before .before .before .before .args .s)) (c .before .before .loop .at) (getD (now (c .before .before .before .before .before .args .s)) (c .before .before .loop .at) 0) 1
-char c = stands _ _ _ _ (c .before .before .loop .inv .inside) (sym (ascii-at _ _ _ _ (c .before .loop-test .taken) refl (small c) refl))
+char c = ascii-stands _ _ (c .before .loop-test .taken) (small c)
 
 white : (c : tie.After-is-white-space Inv-loop μ-loop)
     → c .is-white-space .result ≡ whiteSpace (getD (now (c .before .before .before .before .before .before .before .args .s)) (c .before .before .before .before .loop .at) 0)

@@ -6,7 +6,7 @@ use native.Mathlib.Omega.{arith}
 use denote.Ref.{now}
 use lib.ListN.{length, drop}
 use Rattle.utf8.specs.Chars.{chars, widths, validPrefix}
-use Rattle.utf8.proofs.Chars.{Stands, stands, chars-bad, chars-end}
+use Rattle.utf8.proofs.Chars.{Stands, stands, ascii-stands, chars-bad, chars-end}
 use Rattle.utf8.proofs.walked_prefix.Statement.{statement}
 use Rattle.utf8.proofs.walked_prefix.Tie as tie
 
@@ -20,6 +20,21 @@ loop-holds : tie.Need-loop-holds Inv-loop μ-loop
 unfolding validPrefix
 loop-holds c = (omega arith, omega arith)
 
+shared-slice-read-if1 : tie.Need-shared-slice-read-if1 Inv-loop μ-loop
+shared-slice-read-if1 c = omega arith
+
+add-at : tie.Need-add-at Inv-loop μ-loop
+add-at c = omega arith
+
+loop-less : tie.Need-loop-less Inv-loop μ-loop
+loop-less c = omega arith
+
+loop-again : tie.Need-loop-again Inv-loop μ-loop
+unfolding widths
+loop-again c =
+    let k = c .before .before .before in
+    omega (arith, ap widths (ascii-stands (now (k .before .before .args .s)) (k .loop .at) (c .before .before .loop-test .taken) (c .if1 .taken) .first))
+
 decode-requires : tie.Need-decode-requires Inv-loop μ-loop
 decode-requires c κs = tt
 
@@ -28,21 +43,21 @@ enum-known-width c = c .match .keys1
 
 -- the character that was found
 char : (c : tie.After-known-told Inv-loop μ-loop)
-    → Stands (now (c .before .before .before .before .before .before .before .args .s)) (c .before .before .before .before .before .loop .at)
+    → Stands (now (c .before .before .before .before .before .before .before .before .before .args .s)) (c .before .before .before .before .before .before .before .loop .at)
     (c .before .width .given .0 .0) (c .before .width .given .0 .1 .0)
 char c =
-    stands _ _ _ _ (c .before .before .before .before .before .loop .inv .0)
+    stands _ _ _ _ (c .before .before .before .before .before .before .before .loop .inv .0)
     (sym (c .before .before .before .decode .ensures) ∙ c .before .width .given .1)
 
-add-at : tie.Need-add-at Inv-loop μ-loop
-add-at c = omega (arith, char c)
+add-at-2 : tie.Need-add-at-2 Inv-loop μ-loop
+add-at-2 c = omega (arith, char c)
 
-loop-less : tie.Need-loop-less Inv-loop μ-loop
-loop-less c = omega (arith, char c)
+loop-less-2 : tie.Need-loop-less-2 Inv-loop μ-loop
+loop-less-2 c = omega (arith, char c)
 
-loop-again : tie.Need-loop-again Inv-loop μ-loop
+loop-again-2 : tie.Need-loop-again-2 Inv-loop μ-loop
 unfolding widths
-loop-again c = omega (arith, char c, ap widths (char c .first))
+loop-again-2 c = omega (arith, char c, ap widths (char c .first))
 
 enum-told : tie.Need-enum-told Inv-loop μ-loop
 enum-told c = c .match .keys2
@@ -62,11 +77,15 @@ walked-prefix-spec =
     Inv-loop
     μ-loop
     loop-holds
-    decode-requires
-    enum-known-width
+    shared-slice-read-if1
     add-at
     loop-less
     loop-again
+    decode-requires
+    enum-known-width
+    add-at-2
+    loop-less-2
+    loop-again-2
     enum-told
     returns
     returns-2)
