@@ -1,11 +1,11 @@
 -- `common::digits` meets its contract. The invariant: n is the number of the digits passed, and the search from i on gives what the whole search gives.
--- Before n could exceed 64 bits `long_digits` takes over. The measure is what is left.
+-- Where one digit more does not fit in 64 bits `long_digits` takes over. The measure is what is left.
 -- Assumes nothing.
-use Prim.Native.Nat.{_-_, _^_, _≤_, _<_}
+use Prim.Native.Nat.{_+_, _-_, _*_, _^_, _≤_, _<_}
 use mathlib.Core.Bool.{true}
 use mathlib.Core.Path.{_≡_, refl, sym, _∙_}
 use native.Mathlib.Omega.{arith}
-use borrow.Author.Tests.{not-true, not-false}
+use borrow.Author.Tests.{not-true, not-false, ltb-true}
 use borrow.Author.Needs.{needs}
 use lib.ListN.{getD}
 use Rattle.text.specs.Class.{isDigit}
@@ -36,6 +36,11 @@ ends c =
     let k = c .before .before .before .before in
     digit-ends (getD (k .before .before .args .s .now) (k .loop .i) 0) (rw (good c) tt)
 
+-- the number with the digit is below 2^64
+sum-fits : (c : tie.Then2 Inv-loop μ-loop)
+    → c .before .before .before .before .before .before .loop .n * 10 + (getD (c .before .before .before .before .before .before .before .before .args .s .now) (c .before .before .before .before .before .before .loop .i) 0 - 48) < 2 ^ 64
+sum-fits c = ltb-true _ _ (sym (c .before .has-room .ensures) ∙ c .if2 .taken)
+
 loop-holds : tie.Need-loop-holds Inv-loop μ-loop
 unfolding firstWrong
 loop-holds c =
@@ -56,23 +61,20 @@ returns c =
     (k .loop .inv .4 ∙ wrong-here Digits (a .s .now) (k .loop .i) (a .check) (a .to - k .loop .i) (omega arith)
     (rw (← c .before .allows .ensures) (not-true _ (c .if1 .taken))))
 
-long-digits-requires : tie.Need-long-digits-requires Inv-loop μ-loop
-long-digits-requires c κs = search needs
+sub-d : tie.Need-sub-d Inv-loop μ-loop
+sub-d c = omega (arith, ends c)
 
-returns-2 : tie.Need-returns-2 Inv-loop μ-loop
-returns-2 c = c .long-digits .ensures
+cast-d : tie.Need-cast-d Inv-loop μ-loop
+cast-d c = omega (arith, ends c)
+
+has-room-requires : tie.Need-has-room-requires Inv-loop μ-loop
+has-room-requires c κs = omega (arith, ends c)
 
 mul-n : tie.Need-mul-n Inv-loop μ-loop
-mul-n c = omega arith
-
-sub-n : tie.Need-sub-n Inv-loop μ-loop
-sub-n c = omega (arith, ends (c .before))
-
-cast-n : tie.Need-cast-n Inv-loop μ-loop
-cast-n c = omega (arith, ends (c .before))
+mul-n c = omega (arith, sum-fits c)
 
 add-n : tie.Need-add-n Inv-loop μ-loop
-add-n c = omega (arith, ends (c .before))
+add-n c = omega (arith, sum-fits c)
 
 add-i : tie.Need-add-i Inv-loop μ-loop
 add-i c = omega arith
@@ -82,15 +84,22 @@ loop-less c = omega arith
 
 loop-again : tie.Need-loop-again Inv-loop μ-loop
 loop-again c =
-    let k = c .before .before .before .before .before in
+    let g = c .before .before in
+    let k = g .before .before .before .before in
     let a = k .before .before .args in
-    let h = c .before .before .before .before .loop-test .taken in (
+    let h = g .before .before .before .loop-test .taken in (
       omega arith,
       omega arith,
-      omega (arith, ends (c .before)),
+      omega (arith, sum-fits c),
       omega (arith, number-next (a .s .now) (a .at) (k .loop .i) (k .loop .inv .0) (omega arith)),
-      k .loop .inv .4 ∙ wrong-next (a .s .now) (a .at) (k .loop .i) (k .loop .inv .0) (a .to) (a .check) h (good (c .before)),
+      k .loop .inv .4 ∙ wrong-next (a .s .now) (a .at) (k .loop .i) (k .loop .inv .0) (a .to) (a .check) h (good g),
     )
+
+long-digits-requires : tie.Need-long-digits-requires Inv-loop μ-loop
+long-digits-requires c κs = search needs
+
+returns-2 : tie.Need-returns-2 Inv-loop μ-loop
+returns-2 c = c .long-digits .ensures
 
 returns-3 : tie.Need-returns-3 Inv-loop μ-loop
 returns-3 c =
@@ -111,13 +120,14 @@ digits-spec =
     shared-slice-read-b
     allows-requires
     returns
-    long-digits-requires
-    returns-2
+    sub-d
+    cast-d
+    has-room-requires
     mul-n
-    sub-n
-    cast-n
     add-n
     add-i
     loop-less
     loop-again
+    long-digits-requires
+    returns-2
     returns-3)
