@@ -1,7 +1,7 @@
 // UTF-8 as RFC 3629 defines it: the character at a place, the longest well-formed prefix, ASCII texts; and Unicode's White_Space.
 ghost use mathlib.Core.Path.{_≡_};
 ghost use Prim.Native.Nat.{_+_, _*_, _%_, _^_, _<_, max};
-ghost use lib.ListN.{drop};
+ghost use lib.ListN.{length, drop};
 ghost use Rattle.utf8.specs.Rfc3629.{lead, leadOf, needed, wellFormed, scalarOf, front};
 ghost use Rattle.utf8.specs.Chars.{ascii, validPrefix};
 ghost use Rattle.utf8.specs.Space.{whiteSpace};
@@ -124,7 +124,27 @@ fn scalar(w: usize, a: u8, b: u8, c: u8, d: u8) -> u32
     joined(joined(joined(wide(a % 8), b), c), d)
 }
 
-// The character that starts at a place.
+// The character that starts at a place, by its first byte's row.
+fn by_row(s: &[u8], at: usize) -> Decoded
+    requires { ⌜ at < length (now s) ⌝ }
+    ensures { λ r. ⌜ r ≡ front (drop at (now (s .entry))) ⌝ }
+{
+    let a = s[at];
+    let b = text::at(s, at + 1);
+    let c = text::at(s, at + 2);
+    let d = text::at(s, at + 3);
+    let l = lead_of(a);
+    if well_formed(l, b, c, d) {
+        let w = l.width;
+        return Decoded::Char {
+            scalar: scalar(w, a, b, c, d),
+            width: w,
+        };
+    }
+    Decoded::Bad
+}
+
+// The character that starts at a place. An ASCII byte needs no look at the rows.
 pub fn decode(s: &[u8], at: usize) -> Decoded
     ensures { λ r. ⌜ r ≡ front (drop at (now (s .entry))) ⌝ }
 {
@@ -138,18 +158,7 @@ pub fn decode(s: &[u8], at: usize) -> Decoded
             width: 1,
         };
     }
-    let b = text::at(s, at + 1);
-    let c = text::at(s, at + 2);
-    let d = text::at(s, at + 3);
-    let l = lead_of(a);
-    if well_formed(l, b, c, d) {
-        let w = l.width;
-        return Decoded::Char {
-            scalar: scalar(w, a, b, c, d),
-            width: w,
-        };
-    }
-    Decoded::Bad
+    by_row(s, at)
 }
 
 fn higher(a: u8, b: u8) -> u8
@@ -181,7 +190,7 @@ fn walked_prefix(s: &[u8]) -> usize
             at += 1;
             continue;
         }
-        match decode(s, at) {
+        match by_row(s, at) {
             Decoded::Char { scalar: _, width } => {
                 at += width;
             }

@@ -1,10 +1,10 @@
--- `utf8::decode` meets its contract: the bytes that were read are those by which `front` decides.
+-- `utf8::decode` meets its contract: past the end there is no character, a byte below 128 is one, and else `by_row` decides.
 -- Assumes nothing.
 use mathlib.Core.Path.{refl}
 use denote.Ref.{now}
 use lib.ListN.{drop-of-length-le}
 use Rattle.utf8.specs.Rfc3629.{front}
-use Rattle.utf8.proofs.Chars.{decodes, decodes-not, ascii-at}
+use Rattle.utf8.proofs.Chars.{ascii-at}
 use borrow.Author.Needs.{needs}
 use Rattle.utf8.proofs.decode.Statement.{statement}
 use Rattle.utf8.proofs.decode.Tie as tie
@@ -24,73 +24,11 @@ returns-2 c =
     let start = c .before .before .before .before .before in
     ascii-at (now (start .args .s)) (start .args .at) _ _ (c .before .before .before .if1 .left) refl (c .before .if2 .taken) (c .wide .ensures)
 
-add-at : tie.Need-add-at
-add-at c = search needs
-
-at-requires : tie.Need-at-requires
-at-requires c κs = search needs
-
-add-at-2 : tie.Need-add-at-2
-add-at-2 c = search needs
-
-at-requires-2 : tie.Need-at-requires-2
-at-requires-2 c κs = search needs
-
-add-at-3 : tie.Need-add-at-3
-add-at-3 c = search needs
-
-at-requires-3 : tie.Need-at-requires-3
-at-requires-3 c κs = search needs
-
-lead-of-requires : tie.Need-lead-of-requires
-lead-of-requires c κs = search needs
-
-well-formed-requires : tie.Need-well-formed-requires
-well-formed-requires c κs = search needs
-
-scalar-requires : tie.Need-scalar-requires
-scalar-requires c κs = search needs
+by-row-requires : tie.Need-by-row-requires
+by-row-requires c κs = search needs
 
 returns-3 : tie.Need-returns-3
-returns-3 c =
-    let test = c .before .before in
-    let lead = test .before in
-    let read = lead .before in
-    let first = read .before .before in
-    let start = first .before .before .before .before .before in
-    decodes (now (start .args .s)) (start .args .at) _ (first .at .result) (read .before .at2 .result) (read .at3 .result)
-    (lead .lead-of .result) (test .well-formed .result) _ (first .before .before .before .if1 .left)
-    refl (first .at .ensures) (read .before .at2 .ensures) (read .at3 .ensures) (lead .lead-of .ensures) (test .well-formed .ensures)
-    (c .before .if3 .taken) (c .scalar .ensures)
-
-returns-4 : tie.Need-returns-4
-returns-4 c =
-    let test = c .before in
-    let lead = test .before in
-    let read = lead .before in
-    let first = read .before .before in
-    let start = first .before .before .before .before .before in
-    decodes-not (now (start .args .s)) (start .args .at) _ (first .at .result) (read .before .at2 .result) (read .at3 .result)
-    (lead .lead-of .result) (test .well-formed .result) 0 (first .before .before .before .if1 .left)
-    refl (first .at .ensures) (read .before .at2 .ensures) (read .at3 .ensures) (lead .lead-of .ensures) (test .well-formed .ensures)
-    (c .if3 .left)
+returns-3 c = c .by-row .ensures
 
 pub decode-spec : {M : Type 1} → statement M
-decode-spec =
-    tie.close
-    (tie.spec
-    returns
-    shared-slice-read-a
-    wide-requires
-    returns-2
-    add-at
-    at-requires
-    add-at-2
-    at-requires-2
-    add-at-3
-    at-requires-3
-    lead-of-requires
-    well-formed-requires
-    scalar-requires
-    returns-3
-    returns-4)
+decode-spec = tie.close (tie.spec returns shared-slice-read-a wide-requires returns-2 by-row-requires returns-3)

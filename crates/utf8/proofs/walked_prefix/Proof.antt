@@ -35,8 +35,8 @@ loop-again c =
     let k = c .before .before .before in
     omega (arith, ap widths (ascii-stands (now (k .before .before .args .s)) (k .loop .at) (c .before .before .loop-test .taken) (c .if1 .taken) .first))
 
-decode-requires : tie.Need-decode-requires Inv-loop μ-loop
-decode-requires c κs = tt
+by-row-requires : tie.Need-by-row-requires Inv-loop μ-loop
+by-row-requires c κs = omega arith
 
 enum-known-width : tie.Need-enum-known-width Inv-loop μ-loop
 enum-known-width c = c .match .keys1
@@ -47,7 +47,7 @@ char : (c : tie.After-known-told Inv-loop μ-loop)
     (c .before .width .given .0 .0) (c .before .width .given .0 .1 .0)
 char c =
     stands _ _ _ _ (c .before .before .before .before .before .before .before .loop .inv .0)
-    (sym (c .before .before .before .decode .ensures) ∙ c .before .width .given .1)
+    (sym (c .before .before .before .by-row .ensures) ∙ c .before .width .given .1)
 
 add-at-2 : tie.Need-add-at-2 Inv-loop μ-loop
 add-at-2 c = omega (arith, char c)
@@ -64,7 +64,7 @@ enum-told c = c .match .keys2
 
 returns : tie.Need-returns Inv-loop μ-loop
 unfolding widths
-returns c = omega (arith, ap widths (chars-bad _ (sym (c .before .before .decode .ensures) ∙ c .enum-told .given .1)))
+returns c = omega (arith, ap widths (chars-bad _ (sym (c .before .before .by-row .ensures) ∙ c .enum-told .given .1)))
 
 returns-2 : tie.Need-returns-2 Inv-loop μ-loop
 unfolding widths
@@ -81,7 +81,7 @@ walked-prefix-spec =
     add-at
     loop-less
     loop-again
-    decode-requires
+    by-row-requires
     enum-known-width
     add-at-2
     loop-less-2
