@@ -97,9 +97,9 @@ pub continued-append : (r : ℕ) (s t : List ℕ) → continued (continued r s) 
 unfolding continued
 continued-append r s t = reduced (numberAfter r s) t ∙ ap (λ (n : ℕ). n % 97) (after-append r s t)
 
-pub continued-none : (r : ℕ) → r % 97 ≡ continued r []
+pub continued-none : (r : ℕ) → r < 97 → r ≡ continued r []
 unfolding continued numberAfter expand decimal
-continued-none r = omega arith
+continued-none r h = omega arith
 
 pub from-nothing : (t : List ℕ) → continued 0 t ≡ remainderOf t
 unfolding continued numberAfter remainderOf

@@ -58,10 +58,11 @@ fn rest(n: u64) -> u64
 }
 
 // The remainder of r's digits with the text's after them, one character at a time.
-pub fn mod97(r: u64, t: &[u8]) -> u64
+fn onward(r: u64, t: &[u8]) -> u64
+    requires { ⌜ r < 97 ⌝ }
     ensures { λ x. ⌜ Remains (continued r (now (t .entry))) x ⌝ }
 {
-    let mut remainder = r % 97;
+    let mut remainder = r;
     let mut i = 0;
     while i < t.len() {
         remainder = rest(step(remainder, t[i]));
@@ -70,11 +71,18 @@ pub fn mod97(r: u64, t: &[u8]) -> u64
     remainder
 }
 
+// The same of any number.
+pub fn mod97(r: u64, t: &[u8]) -> u64
+    ensures { λ x. ⌜ Remains (continued r (now (t .entry))) x ⌝ }
+{
+    onward(r % 97, t)
+}
+
 // Of the text as it stands: an LEI's.
 pub fn remainder(t: &[u8]) -> u64
     ensures { λ x. ⌜ Remains (remainderOf (now (t .entry))) x ⌝ }
 {
-    mod97(0, t)
+    onward(0, t)
 }
 
 // Of the text with its first four characters moved to the end; a shorter one stays as it is.
@@ -84,8 +92,8 @@ pub fn iban_remainder(t: &[u8]) -> u64
     if t.len() < 4 {
         return remainder(t);
     }
-    let r = mod97(0, &t[4..]);
-    mod97(r, &t[0..4])
+    let r = onward(0, &t[4..]);
+    onward(r, &t[0..4])
 }
 
 // The check digits from the remainder that digits 00 in their place give.

@@ -12,32 +12,32 @@ remainder-requires c κs = search needs
 returns : tie.Need-returns
 returns c = record { is = c .remainder .ensures .is ∙ short-sum _ (c .before .if1 .taken); low = c .remainder .ensures .low }
 
-sub-mod97 : tie.Need-sub-mod97
-sub-mod97 c = search needs
+sub-onward : tie.Need-sub-onward
+sub-onward c = search needs
 
-part-mod97-start : tie.Need-part-mod97-start
-part-mod97-start c = search needs
+part-onward-start : tie.Need-part-onward-start
+part-onward-start c = search needs
 
-part-mod97-end : tie.Need-part-mod97-end
-part-mod97-end c = search needs
+part-onward-end : tie.Need-part-onward-end
+part-onward-end c = search needs
 
-mod97-requires : tie.Need-mod97-requires
-mod97-requires c κs = search needs
+onward-requires : tie.Need-onward-requires
+onward-requires c κs = search needs
 
-sub-mod97-2 : tie.Need-sub-mod97-2
-sub-mod97-2 c = search needs
+sub-onward-2 : tie.Need-sub-onward-2
+sub-onward-2 c = search needs
 
-part-mod97-start-2 : tie.Need-part-mod97-start-2
-part-mod97-start-2 c = search needs
+part-onward-start-2 : tie.Need-part-onward-start-2
+part-onward-start-2 c = search needs
 
-part-mod97-end-2 : tie.Need-part-mod97-end-2
-part-mod97-end-2 c = search needs
+part-onward-end-2 : tie.Need-part-onward-end-2
+part-onward-end-2 c = search needs
 
-mod97-requires-2 : tie.Need-mod97-requires-2
-mod97-requires-2 c κs = search needs
+onward-requires-2 : tie.Need-onward-requires-2
+onward-requires-2 c κs = search needs
 
 returns-2 : tie.Need-returns-2
-returns-2 c = record { is = c .mod972 .ensures .is ∙ moved-sum _ _ (c .before .before .mod97 .ensures .is); low = c .mod972 .ensures .low }
+returns-2 c = record { is = c .onward2 .ensures .is ∙ moved-sum _ _ (c .before .before .onward .ensures .is); low = c .onward2 .ensures .low }
 
 pub iban-remainder-spec : {M : Type 1} → statement M
 iban-remainder-spec =
@@ -45,12 +45,12 @@ iban-remainder-spec =
     (tie.spec
     remainder-requires
     returns
-    sub-mod97
-    part-mod97-start
-    part-mod97-end
-    mod97-requires
-    sub-mod97-2
-    part-mod97-start-2
-    part-mod97-end-2
-    mod97-requires-2
+    sub-onward
+    part-onward-start
+    part-onward-end
+    onward-requires
+    sub-onward-2
+    part-onward-start-2
+    part-onward-end-2
+    onward-requires-2
     returns-2)

@@ -6,11 +6,11 @@ use Rattle.checkdigit.proofs.Digits.{from-nothing}
 use Rattle.checkdigit.proofs.remainder.Statement.{statement}
 use Rattle.checkdigit.proofs.remainder.Tie as tie
 
-mod97-requires : tie.Need-mod97-requires
-mod97-requires c κs = search needs
+onward-requires : tie.Need-onward-requires
+onward-requires c κs = search needs
 
 returns : tie.Need-returns
-returns c = record { is = c .mod97 .ensures .is ∙ from-nothing _; low = c .mod97 .ensures .low }
+returns c = record { is = c .onward .ensures .is ∙ from-nothing _; low = c .onward .ensures .low }
 
 pub remainder-spec : {M : Type 1} → statement M
-remainder-spec = tie.close (tie.spec mod97-requires returns)
+remainder-spec = tie.close (tie.spec onward-requires returns)
