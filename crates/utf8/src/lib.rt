@@ -1,7 +1,8 @@
 // UTF-8 as RFC 3629 defines it: the character at a place, the longest well-formed prefix, ASCII texts; and Unicode's White_Space.
 ghost use mathlib.Core.Path.{_≡_};
-ghost use Prim.Native.Nat.{_+_, _*_, _%_, _^_, _<_, max};
-ghost use lib.ListN.{length, drop};
+ghost use Prim.Native.Nat.{_+_, _*_, _%_, _^_, _<_, _≤_};
+ghost use lib.Dec.{ltb};
+ghost use lib.ListN.{length, take, drop};
 ghost use Rattle.utf8.specs.Rfc3629.{lead, leadOf, needed, wellFormed, scalarOf, front};
 ghost use Rattle.utf8.specs.Chars.{ascii, validPrefix};
 ghost use Rattle.utf8.specs.Space.{whiteSpace};
@@ -161,23 +162,43 @@ pub fn decode(s: &[u8], at: usize) -> Decoded
     by_row(s, at)
 }
 
-fn higher(a: u8, b: u8) -> u8
-    ensures { λ r. ⌜ r ≡ max a b ⌝ }
+// The bits that any of eight bytes has; the compiler reads them at once.
+fn bits_of_eight(s: &[u8], i: usize) -> u8
+    requires { ⌜ i + 8 ≤ length (now s) ⌝ }
+    ensures { λ r. ⌜ ltb r 128 ≡ ascii (take 8 (drop i (now (s .entry)))) ⌝ }
 {
-    if a < b { b } else { a }
+    s[i] | (s[i + 1] | (s[i + 2] | (s[i + 3] | (s[i + 4] | (s[i + 5] | (s[i + 6] | s[i + 7]))))))
 }
 
-// The highest byte is tested after the loop: a loop with no way out takes many bytes at a time.
+// Of a text of fewer bytes, one at a time.
+fn few_ascii(s: &[u8]) -> bool
+    ensures { λ r. ⌜ r ≡ ascii (now (s .entry)) ⌝ }
+{
+    let mut bits: u8 = 0;
+    let mut i = 0;
+    while i < s.len() {
+        bits = bits | s[i];
+        i += 1;
+    }
+    bits < 128
+}
+
+// Eight bytes at a time, and the last eight again, so that no loop over single bytes is left.
 pub fn is_ascii(s: &[u8]) -> bool
     ensures { λ r. ⌜ r ≡ ascii (now (s .entry)) ⌝ }
 {
-    let mut highest: u8 = 0;
-    let mut i = 0;
-    while i < s.len() {
-        highest = higher(highest, s[i]);
-        i += 1;
+    if s.len() < 8 {
+        return few_ascii(s);
     }
-    highest < 128
+    let last = s.len() - 8;
+    let mut i = 0;
+    while i < last {
+        if 128 <= bits_of_eight(s, i) {
+            return false;
+        }
+        i += 8;
+    }
+    bits_of_eight(s, last) < 128
 }
 
 // The prefix, one character after the other. An ASCII byte is passed without a call.

@@ -1,32 +1,46 @@
--- `utf8::is_ascii` meets its contract. The loop's invariant: the highest byte so far and the bytes that are left say whether the text is ASCII.
+-- `utf8::is_ascii` meets its contract. The loop's invariant: the bytes before the place are ASCII.
 -- Assumes nothing.
-use Prim.Native.Nat.{_-_, _≤_}
-use mathlib.Core.Path.{_≡_, refl, sym, _∙_}
+use Prim.Native.Nat.{_+_, _-_, _≤_}
+use mathlib.Core.Path.{_≡_, refl, sym, _∙_, ap}
+use mathlib.Core.Bool.{true}
 use native.Mathlib.Omega.{arith}
 use borrow.Author.Needs.{needs}
+use borrow.Author.Tests.{lt-ltb, le-ltb}
 use denote.Ref.{now}
-use lib.Dec.{ltb}
-use lib.ListN.{length, drop}
-use Rattle.answer.specs.Choice.{both}
+use lib.ListN.{length, take, drop, length-drop}
+use lib.Seq.{take-all}
 use Rattle.utf8.specs.Chars.{ascii}
-use Rattle.utf8.proofs.Ascii.{ascii-more, ascii-done}
+use Rattle.utf8.proofs.Ascii.{ascii-part, ascii-not, ascii-last}
 use Rattle.utf8.proofs.is_ascii.Statement.{statement}
 use Rattle.utf8.proofs.is_ascii.Tie as tie
 
 abbrev Inv-loop : tie.InvT-loop
-Inv-loop s highest₀ i₀ highest i = (i ≤ length s) × (both (ltb highest 128) (ascii (drop i s)) ≡ ascii s)
+Inv-loop s last i₀ i = (last + 8 ≡ length s) × (i ≤ length s) × (ascii (take i s) ≡ true)
 
 abbrev μ-loop : tie.MeasureT-loop
-μ-loop s highest₀ i₀ highest i = length s - i
+μ-loop s last i₀ i = length s - i
+
+few-ascii-requires : tie.Need-few-ascii-requires Inv-loop μ-loop
+few-ascii-requires c κs = search needs
+
+returns : tie.Need-returns Inv-loop μ-loop
+returns c = c .few-ascii .ensures
+
+sub-last : tie.Need-sub-last Inv-loop μ-loop
+sub-last c = search needs
 
 loop-holds : tie.Need-loop-holds Inv-loop μ-loop
-loop-holds c = (omega arith, refl)
+unfolding ascii
+loop-holds c = (omega arith, omega arith, refl)
 
-shared-slice-read-higher : tie.Need-shared-slice-read-higher Inv-loop μ-loop
-shared-slice-read-higher c = search needs
+bits-of-eight-requires : tie.Need-bits-of-eight-requires Inv-loop μ-loop
+bits-of-eight-requires c κs = search needs
 
-higher-requires : tie.Need-higher-requires Inv-loop μ-loop
-higher-requires c κs = search needs
+returns-2 : tie.Need-returns-2 Inv-loop μ-loop
+returns-2 c =
+    let l = c .before .before .before .loop in
+    let s = now (c .before .before .before .before .before .before .args .s) in
+    sym (ascii-not s (l .i + 8) (ascii-part s (l .i) 8 (l .inv .2) ∙ sym (c .before .bits-of-eight .ensures) ∙ le-ltb _ 128 (c .if2 .taken)))
 
 add-i : tie.Need-add-i Inv-loop μ-loop
 add-i c = search needs
@@ -36,14 +50,24 @@ loop-less c = search needs
 
 loop-again : tie.Need-loop-again Inv-loop μ-loop
 loop-again c =
-    let at = c .before .before .before .loop in
-    let s = now (c .before .before .before .before .before .args .s) in
-    (omega arith, rw (c .higher .ensures) (sym (ascii-more s (at .i) (at .highest) (c .before .before .loop-test .taken)) ∙ at .inv .1))
+    let l = c .before .before .before .loop in
+    let s = now (c .before .before .before .before .before .before .args .s) in (
+      omega arith,
+      omega arith,
+      ascii-part s (l .i) 8 (l .inv .2) ∙ sym (c .before .bits-of-eight .ensures) ∙ lt-ltb _ 128 (c .if2 .left),
+    )
 
-returns : tie.Need-returns Inv-loop μ-loop
-returns c =
-    let at = c .before .loop in
-    sym (ascii-done (now (c .before .before .before .args .s)) (at .i) (at .highest) (c .loop-test .left)) ∙ at .inv .1
+bits-of-eight-requires-2 : tie.Need-bits-of-eight-requires-2 Inv-loop μ-loop
+bits-of-eight-requires-2 c κs = search needs
+
+returns-3 : tie.Need-returns-3 Inv-loop μ-loop
+returns-3 c =
+    let l = c .before .before .loop in
+    let s = now (c .before .before .before .before .before .args .s) in
+    let k = length s - 8 in
+    c .bits-of-eight2 .ensures
+    ∙ ap ascii (take-all 8 (drop k s) (omega (arith, length-drop k s)))
+    ∙ sym (ascii-last s k (l .i) (omega arith) (l .inv .2))
 
 pub is-ascii-spec : {M : Type 1} → statement M
 is-ascii-spec =
@@ -51,10 +75,14 @@ is-ascii-spec =
     (tie.spec
     Inv-loop
     μ-loop
+    few-ascii-requires
+    returns
+    sub-last
     loop-holds
-    shared-slice-read-higher
-    higher-requires
+    bits-of-eight-requires
+    returns-2
     add-i
     loop-less
     loop-again
-    returns)
+    bits-of-eight-requires-2
+    returns-3)
