@@ -1,8 +1,8 @@
 -- Document 01, "The batch": the numbers of records and verdicts are "all little-endian", the lowest byte first.
 -- Assumes nothing.
-use Prim.Native.Nat.{ℕ, zero, suc, _+_, _*_, _/_, _%_}
+use Prim.Native.Nat.{ℕ, zero, suc, _+_, _*_, _/_, _%_, _<_}
 use mathlib.Core.List.{List, [], _∷_}
-use lib.ListN.{take, drop}
+use lib.ListN.{getD, take, drop}
 
 -- the k lowest bytes of x
 abbrev pub toBytes : ℕ → ℕ → List ℕ
@@ -17,3 +17,7 @@ fromBytes (b ∷ s) = b + 256 * fromBytes s
 -- the number that k bytes at a place write
 abbrev pub numberAt : List ℕ → ℕ → ℕ → ℕ
 numberAt s at k = fromBytes (take k (drop at s))
+
+-- every element is a byte
+abbrev pub Bytes : List ℕ → Type 0
+Bytes b = (i : ℕ) → getD b i 0 < 256

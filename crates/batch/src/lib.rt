@@ -3,7 +3,7 @@ ghost use mathlib.Core.Path.{_≡_};
 ghost use mathlib.Core.List.{_++_};
 ghost use Prim.Native.Nat.{_+_, _-_, _≤_};
 ghost use lib.ListN.{length, take, drop};
-ghost use Rattle.batch.specs.Number.{toBytes, numberAt};
+ghost use Rattle.batch.specs.Number.{toBytes, fromBytes, numberAt};
 ghost use Rattle.batch.specs.Head.{headOf};
 ghost use Rattle.batch.specs.Verdict.{verdictSize, answerBytes, verdict};
 ghost use Rattle.batch.specs.Walk.{stopNumber, unlessSpent, nextOf, turnOut, seen, callOf};
@@ -70,6 +70,35 @@ fn pair_at(s: &[u8], at: usize) -> u16
     ensures { λ r. ⌜ r ≡ numberAt (now (s .entry)) at 2 ⌝ }
 {
     (s[at] as u16) + 256 * (s[at + 1] as u16)
+}
+
+// The number that bytes write, the lowest first; of more than eight bytes the first eight.
+pub fn read_number(b: &[u8]) -> u64
+    ensures { λ r. ⌜ r ≡ fromBytes (take 8 (now (b .entry))) ⌝ }
+{
+    let mut x: u64 = 0;
+    let mut i = b.len();
+    if 8 < i {
+        i = 8;
+    }
+    while 0 < i {
+        i -= 1;
+        x = (b[i] as u64) + 256 * x;
+    }
+    x
+}
+
+// As many of a number's bytes as there is room for, the lowest first.
+pub fn write_number(b: &mut [u8], x: u64)
+    ensures { λ _. ⌜ now (b .exit) ≡ toBytes (length (now (b .entry))) x ⌝ }
+{
+    let mut rest = x;
+    let mut i = 0;
+    while i < b.len() {
+        b[i] = (rest % 256) as u8;
+        rest = rest / 256;
+        i += 1;
+    }
 }
 
 pub fn read_head(rest: &[u8]) -> Head
