@@ -1,12 +1,12 @@
 -- Lists written part by part: three elements stored at the front, a part copied whole, and the four parts of a sheet.
 -- Assumes nothing.
-use Prim.Native.Nat.{ℕ, _+_, _≤_}
+use Prim.Native.Nat.{ℕ, _≤_}
 use mathlib.Core.Path.{_≡_, refl, ap, _∙_}
 use mathlib.Core.List.{List, [], _∷_, _++_, append-nil}
 use native.Mathlib.Omega.{arith}
 use borrow.Rule.Slice.PartMut.{putMid}
-use lib.ListN.{length, set, take, drop, length-drop, drop-of-length-le}
-use lib.Seq.{take-length, length-take-le, drop-drop}
+use lib.ListN.{length, set, take, drop, drop-of-length-le}
+use lib.Seq.{take-length, drop-drop}
 use Rattle.batch.specs.Number.{toBytes}
 use Rattle.stitchbarrow.specs.Sheets.{sheetSize, sheetBytes}
 use Rattle.sheet.specs.declared.Sheet.{Sheet}
@@ -16,14 +16,6 @@ three [] a b c h = absurd (omega arith)
 three (x ∷ []) a b c h = absurd (omega arith)
 three (x ∷ y ∷ []) a b c h = absurd (omega arith)
 three (x ∷ y ∷ z ∷ l) a b c h = refl
-
--- a part of k elements from the a-th on
-pub part-long : (a k : ℕ) (l : List ℕ) → a + k ≤ length l → length (take k (drop a l)) ≡ k
-part-long a k l h = length-take-le k (drop a l) (omega (arith, length-drop a l))
-
--- the bytes of a number, written to such a part
-pub part-bytes : (a k x : ℕ) (l out : List ℕ) → a + k ≤ length l → out ≡ toBytes (length (take k (drop a l))) x → out ≡ toBytes k x
-part-bytes a k x l out h e = e ∙ ap (λ (n : ℕ). toBytes n x) (part-long a k l h)
 
 -- a copy that fills what it is copied to
 pub copied-whole : (s to out : List ℕ) → length to ≤ length s → out ≡ take (length s) s ++ drop (length s) to → out ≡ s

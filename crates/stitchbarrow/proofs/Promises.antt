@@ -7,6 +7,7 @@ use mathlib.Core.List.{List, [], _∷_, _++_}
 use mathlib.Core.Logic.{_≢_}
 use lib.ListN.{length, drop}
 use Rattle.iban.specs.Held.{padded}
+use Rattle.batch.specs.Number.{Bytes}
 use Rattle.sheet.specs.Sheets.{emptySheet}
 use Rattle.sheet.specs.Load.{summed, loadOf, standing}
 use Rattle.sheet.specs.Repairs.{Request, repairOf}
@@ -15,7 +16,7 @@ use Rattle.sheet.specs.declared.Sheet.{Sheet}
 use Rattle.sheet.specs.declared.Repaired.{Repaired}
 use Rattle.sheet.proofs.Sheets.{stood}
 use Rattle.sheet.proofs.Promises.{loaded-stands, repaired-stands}
-use Rattle.stitchbarrow.specs.Sheets.{sheetSize, sheetAt, sheetBytes, Bytes}
+use Rattle.stitchbarrow.specs.Sheets.{sheetSize, sheetAt, sheetBytes}
 use Rattle.stitchbarrow.specs.Reply.{sheetReply}
 use Rattle.stitchbarrow.specs.Calls.{repliesAfter}
 use Rattle.stitchbarrow.proofs.Sheets.{sheet-back, lent-back}

@@ -18,6 +18,7 @@ use Rattle.answer.specs.declared.Reason.the-variants.{UnknownKind}
 use Rattle.answer.specs.declared.Step.{Step}
 use Rattle.answer.specs.declared.Step.the-variants.{Pass, Stop}
 use Rattle.field.specs.Field.{checkField}
+use Rattle.batch.specs.Number.{Bytes}
 use Rattle.batch.specs.Verdict.{answerBytes}
 use Rattle.sheet.specs.Sheets.{sheetKind, heldText, sheetOf, held}
 use Rattle.sheet.specs.Load.{refusal, summed, loadOf}
@@ -29,7 +30,7 @@ use Rattle.sheet.proofs.Loads.{fresh-summed}
 use Rattle.sheet.proofs.Sheets.{Stood}
 use Rattle.sheet.proofs.Repairs.{sheet-passed}
 use Rattle.sheet.proofs.Calls.{asked-fit}
-use Rattle.stitchbarrow.specs.Sheets.{sheetSize, sheetAt, sheetBytes, Bytes}
+use Rattle.stitchbarrow.specs.Sheets.{sheetSize, sheetAt, sheetBytes}
 use Rattle.stitchbarrow.specs.Reply.{answerSize, SheetReply, handed, tooShort, sheetReply}
 use Rattle.stitchbarrow.proofs.Sheets.{sheet-back, sheet-long, lent-back}
 

@@ -14,13 +14,12 @@ use Rattle.checkdigit.specs.Sum.{remainderOf, ibanRemainder}
 use Rattle.checkdigit.proofs.Digits.{remainder-low}
 use Rattle.checkdigit.proofs.Iban.{iban-low}
 use Rattle.iban.proofs.Holding.{length-padded}
-use Rattle.batch.specs.Number.{toBytes, numberAt}
-use Rattle.batch.proofs.Numbers.{read-back}
+use Rattle.batch.specs.Number.{toBytes, numberAt, Bytes}
+use Rattle.batch.proofs.Numbers.{read-back, number-back}
 use Rattle.sheet.specs.Sheets.{remainderBy, sheetOf, held}
 use Rattle.sheet.specs.declared.Sheet.{Sheet}
 use Rattle.sheet.proofs.Sheets.{Stood, stood-few, stood-text}
-use Rattle.stitchbarrow.specs.Sheets.{sheetSize, sheetAt, sheetBytes, Bytes}
-use Rattle.stitchbarrow.proofs.Numbers.{number-back}
+use Rattle.stitchbarrow.specs.Sheets.{sheetSize, sheetAt, sheetBytes}
 
 -- what a sheet that stands fits in
 low : (kind : ℕ) (t : List ℕ) → remainderBy kind t < 97

@@ -1,8 +1,8 @@
 -- A sheet in bytes: kind 2, length 2, remainder 8, text 34, little-endian; 46 in all, and all zero when empty.
 -- Assumes nothing.
-use Prim.Native.Nat.{ℕ, _<_}
+use Prim.Native.Nat.{ℕ}
 use mathlib.Core.List.{List, _++_}
-use lib.ListN.{getD, take, drop}
+use lib.ListN.{take, drop}
 use Rattle.batch.specs.Number.{toBytes, numberAt}
 use Rattle.sheet.specs.declared.Sheet.{Sheet}
 
@@ -15,7 +15,3 @@ sheetAt b = record { kind = numberAt b 0 2; length = numberAt b 2 2; remainder =
 
 unfoldable pub sheetBytes : Sheet → List ℕ
 sheetBytes s = toBytes 2 (s .kind) ++ (toBytes 2 (s .length) ++ (toBytes 8 (s .remainder) ++ s .text))
-
--- every element is a byte
-abbrev pub Bytes : List ℕ → Type 0
-Bytes b = (i : ℕ) → getD b i 0 < 256

@@ -1,9 +1,8 @@
 // The interface for C and other languages: functions over numbers and lent slices, as include/stitchbarrow.h declares them.
 ghost use mathlib.Core.Path.{_≡_};
 ghost use mathlib.Core.List.{_++_};
-ghost use Prim.Native.Nat.{_^_, _≤_, _<_};
+ghost use Prim.Native.Nat.{_≤_};
 ghost use lib.ListN.{length, drop};
-ghost use Rattle.batch.specs.Number.{toBytes, fromBytes};
 ghost use Rattle.sheet.specs.Load.{loadOf};
 ghost use Rattle.sheet.specs.Repairs.{repairOf};
 ghost use Rattle.sheet.specs.Repairs.Request.{Replace, Exchange, Fill};
@@ -75,46 +74,13 @@ pub extern "C" fn stitchbarrow_run(
     stop.number()
 }
 
-fn wide(x: u8) -> u64
-    ensures { λ r. ⌜ r ≡ x ⌝ }
-{
-    x as u64
-}
-
-// The number that all of these bytes write, the lowest first.
-fn read_number(b: &[u8]) -> u64
-    requires { ⌜ length (now b) ≤ 8 ⌝ }
-    ensures { λ r. ⌜ (r ≡ fromBytes (now (b .entry))) × (r < 256 ^ length (now (b .entry))) ⌝ }
-{
-    let mut x: u64 = 0;
-    let mut i = b.len();
-    while 0 < i {
-        i -= 1;
-        x = wide(b[i]) + 256 * x;
-    }
-    x
-}
-
-// As many of a number's bytes as there is room for, the lowest first.
-fn write_number(b: &mut [u8], x: u64)
-    ensures { λ _. ⌜ now (b .exit) ≡ toBytes (length (now (b .entry))) x ⌝ }
-{
-    let mut rest = x;
-    let mut i = 0;
-    while i < b.len() {
-        b[i] = (rest % 256) as u8;
-        rest = rest / 256;
-        i += 1;
-    }
-}
-
 fn read_sheet(b: &[u8]) -> Sheet
     requires { ⌜ sheetSize ≤ length (now b) ⌝ }
     ensures { λ r. ⌜ r ≡ sheetAt (now (b .entry)) ⌝ }
 {
-    let kind = read_number(&b[0..2]) as u16;
-    let length = read_number(&b[2..4]) as usize;
-    let remainder = read_number(&b[4..12]);
+    let kind = batch::read_number(&b[0..2]) as u16;
+    let length = batch::read_number(&b[2..4]) as usize;
+    let remainder = batch::read_number(&b[4..12]);
     let mut text = [0u8; 34];
     bytes::copy(&b[12..46], &mut text);
     Sheet {
@@ -129,9 +95,9 @@ fn write_sheet(b: &mut [u8], s: Sheet)
     requires { ⌜ sheetSize ≤ length (now b) ⌝ }
     ensures { λ _. ⌜ now (b .exit) ≡ sheetBytes s ++ drop sheetSize (now (b .entry)) ⌝ }
 {
-    write_number(&mut b[0..2], s.kind as u64);
-    write_number(&mut b[2..4], s.length as u64);
-    write_number(&mut b[4..12], s.remainder);
+    batch::write_number(&mut b[0..2], s.kind as u64);
+    batch::write_number(&mut b[2..4], s.length as u64);
+    batch::write_number(&mut b[4..12], s.remainder);
     let text = s.text;
     bytes::copy(&text, &mut b[12..46]);
 }

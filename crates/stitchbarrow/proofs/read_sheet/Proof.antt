@@ -2,10 +2,11 @@
 -- Assumes nothing.
 use native.Mathlib.Omega.{arith}
 use borrow.Author.Needs.{needs}
-use lib.ListN.{length, take, drop, length-take}
+use mathlib.Core.Path.{_∙_}
+use lib.ListN.{take, drop}
+use Rattle.batch.proofs.Numbers.{number-most, part-long, part-read}
 use Rattle.stitchbarrow.specs.Sheets.{sheetAt}
-use Rattle.stitchbarrow.proofs.Laws.{part-long, copied-whole}
-use Rattle.stitchbarrow.proofs.Numbers.{widened}
+use Rattle.stitchbarrow.proofs.Laws.{copied-whole}
 use Rattle.stitchbarrow.proofs.read_sheet.Statement.{statement}
 use Rattle.stitchbarrow.proofs.read_sheet.Tie as tie
 
@@ -23,8 +24,9 @@ read-number-requires c κs = search needs
 
 cast-kind : tie.Need-cast-kind
 cast-kind c =
-    let b = c .before .before .before .args .b .now in
-    omega (arith, widened (c .read-number .result) (length (take 2 (drop 0 b))) 2 (c .read-number .ensures .1) (simp length-take (omega arith)))
+    let k = c .before .before in
+    let b = k .before .args .b .now in
+    omega (arith, c .read-number .ensures, part-read b 0 2 (omega arith), number-most b (λ i. k .shared-slice-known .given i .fits) 0 2)
 
 sub-read-number-2 : tie.Need-sub-read-number-2
 sub-read-number-2 c = search needs
@@ -74,7 +76,12 @@ returns c =
     let r1 = r2 .before .before in
     let b = r1 .before .before .before .args .b .now in
     let text = copied-whole (take 34 (drop 12 b)) _ _ (rw (part-long 12 34 b (omega arith)) (omega arith)) (p .copy .ensures .1) in
-    rw (r1 .read-number .ensures .0, r2 .read-number2 .ensures .0, r3 .read-number3 .ensures .0, text)
+    rw (
+      r1 .read-number .ensures ∙ part-read b 0 2 (omega arith),
+      r2 .read-number2 .ensures ∙ part-read b 2 2 (omega arith),
+      r3 .read-number3 .ensures ∙ part-read b 4 8 (omega arith),
+      text,
+    )
 
 pub read-sheet-spec : {M : Type 1} → statement M
 read-sheet-spec =

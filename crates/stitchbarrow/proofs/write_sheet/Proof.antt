@@ -6,7 +6,8 @@ use mathlib.Core.Path.{_≡_}
 use mathlib.Core.List.{_++_}
 use lib.ListN.{length, take, drop, length-take, length-drop}
 use borrow.Rule.Slice.PartMut.{putMid}
-use Rattle.stitchbarrow.proofs.Laws.{part-long, part-bytes, copied-whole, laid}
+use Rattle.batch.proofs.Numbers.{part-long, part-written}
+use Rattle.stitchbarrow.proofs.Laws.{copied-whole, laid}
 use Rattle.stitchbarrow.proofs.write_sheet.Statement.{statement}
 use Rattle.stitchbarrow.proofs.write_sheet.Tie as tie
 
@@ -87,9 +88,9 @@ returns c =
     let b2 = putMid 2 2 b1 w2 in
     let b3 = putMid 4 8 b2 w3 in
     laid s b w1 w2 w3 (p4 .copy .last .1 .0)
-    (part-bytes 0 2 (s .kind) b w1 (omega arith) (p1 .write-number .ensures))
-    (part-bytes 2 2 (s .length) b1 w2 (omega arith) (p2 .write-number2 .ensures))
-    (part-bytes 4 8 (s .remainder) b2 w3 (omega arith) (p3 .write-number3 .ensures))
+    (part-written 0 2 (s .kind) b w1 (omega arith) (p1 .write-number .ensures))
+    (part-written 2 2 (s .length) b1 w2 (omega arith) (p2 .write-number2 .ensures))
+    (part-written 4 8 (s .remainder) b2 w3 (omega arith) (p3 .write-number3 .ensures))
     (copied-whole (s .text) (take 34 (drop 12 b3)) _ (rw (part-long 12 34 b3 (omega (arith, p4 .before .before .before .before .before .b3 .given))) (omega (arith, long (p4 .before)))) (p4 .copy .ensures .1))
 
 pub write-sheet-spec : {M : Type 1} → statement M
