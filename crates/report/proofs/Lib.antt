@@ -1,7 +1,6 @@
 -- The laws and theorems of `report`.
 pub mod Digits
 pub mod Arguments
-pub mod Littles
 pub mod Puts
 pub mod Texts
 pub mod Promises

@@ -12,9 +12,9 @@ use lib.Dec.{ltb}
 use lib.ListN.{length, take, drop, length-append, length-drop}
 use lib.Seq.{take-at, drop-append-le, drop-drop}
 use Rattle.answer.specs.Choice.{pick}
-use Rattle.batch.specs.Number.{numberAt}
+use Rattle.batch.specs.Number.{numberAt, Bytes}
 use Rattle.batch.specs.Verdict.{verdictSize}
-use Rattle.batch.proofs.Numbers.{number-append}
+use Rattle.batch.proofs.Numbers.{number-append, bytes-drop, number-most}
 use Rattle.report.specs.declared.Rendered.{Rendered}
 use Rattle.report.specs.Text.{
   field,
@@ -36,7 +36,6 @@ use Rattle.report.specs.Text.{
   ended,
 }
 use Rattle.report.proofs.Digits.{most}
-use Rattle.report.proofs.Littles.{Bytes, bytes-drop, number-most}
 use Rattle.report.proofs.Puts.{length-field, to-end, then}
 
 pub text-snoc : (k : ℕ) (v : List ℕ) → text (suc k) v ≡ text k v ++ line (drop (verdictSize * k) v)

@@ -3,7 +3,6 @@ ghost use mathlib.Core.Path.{_≡_};
 ghost use Prim.Native.Nat.{_+_, _≤_};
 ghost use mathlib.Core.List.{[], _∷_};
 ghost use lib.ListN.{length};
-ghost use Rattle.batch.specs.Number.{numberAt};
 ghost use Rattle.batch.specs.Verdict.{verdictSize};
 ghost use Rattle.report.specs.Digits.{digitsOf};
 ghost use Rattle.report.specs.Text.{
@@ -38,26 +37,6 @@ pub struct Rendered {
 pub enum Offset {
     Is(u64),
     Not,
-}
-
-fn wide(x: u8) -> u64
-    ensures { λ r. ⌜ r ≡ x ⌝ }
-{
-    x as u64
-}
-
-// The number that n bytes at a place hold, the lowest first.
-fn little(v: &[u8], at: usize, n: usize) -> u64
-    requires { ⌜ (at + n ≤ length (now v)) × (n ≤ 8) ⌝ }
-    ensures { λ r. ⌜ r ≡ numberAt (now (v .entry)) at n ⌝ }
-{
-    let mut x: u64 = 0;
-    let mut k = n;
-    while 0 < k {
-        k -= 1;
-        x = wide(v[at + k]) + 256 * x;
-    }
-    x
 }
 
 // How many digits a number has.
@@ -128,11 +107,11 @@ fn put_line(out: &mut [u8], at: usize, v: &[u8]) -> usize
     requires { ⌜ (verdictSize ≤ length (now v)) × (at + length (line (now v)) ≤ length (now out)) ⌝ }
     ensures { λ r. ⌜ Put at (line (now (v .entry))) (now (out .entry)) (now (out .exit)) r ⌝ }
 {
-    let offset = little(v, 4, 8);
-    let kind = little(v, 2, 2);
-    let answer = little(v, 12, 1);
-    let place = little(v, 14, 2);
-    let number = little(v, 16, 8);
+    let offset = batch::read_number(&v[4..12]);
+    let kind = batch::read_number(&v[2..4]);
+    let answer = batch::read_number(&v[12..13]);
+    let place = batch::read_number(&v[14..16]);
+    let number = batch::read_number(&v[16..24]);
     put_row(out, at, offset, kind, answer, place, number)
 }
 

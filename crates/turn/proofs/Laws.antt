@@ -1,17 +1,17 @@
 -- Laws of a call's sizes, and of one turn.
 -- Assumes nothing.
-use Prim.Native.Nat.{ℕ, zero, suc, _+_, _*_, _/_, _^_, _≤_, _<_}
+use Prim.Native.Nat.{ℕ, _+_, _*_, _/_, _^_, _≤_, _<_}
 use mathlib.Core.Path.{_≡_, refl, sym, ap, subst, _∙_}
 use mathlib.Core.Logic.{_⊎_, inl, inr, ⊎-elim}
 use mathlib.Core.Bool.{Bool, true, false}
-use mathlib.Core.List.{List, [], _∷_, _++_}
+use mathlib.Core.List.{List, _++_}
 use native.Mathlib.Omega.{arith}
 use lib.Dec.{ltb, leb, eqb}
-use lib.ListN.{length, getD, take, drop, length-append, length-drop}
+use lib.ListN.{length, take, drop, length-append, length-drop}
 use lib.Seq.{take-append-le, length-take-le}
 use borrow.Author.Tests.{ltb-true, ltb-false, leb-false, eqb-true}
 use Rattle.answer.specs.Choice.{pick}
-use Rattle.batch.specs.Number.{numberAt}
+use Rattle.batch.specs.Number.{numberAt, Bytes}
 use Rattle.batch.specs.Head.{headLimit, headOf}
 use Rattle.batch.specs.Verdict.{verdictSize}
 use Rattle.batch.specs.Walk.{Outcome, stopped, callOf}
@@ -25,12 +25,12 @@ use Rattle.batch.specs.declared.Head.the-variants.{End, Short, TooLong, CutShor
 use Rattle.batch.specs.declared.Stop.{Stop}
 use Rattle.batch.specs.declared.Stop.the-variants.{Finished, Budget, Room, Cut, Offset, Long}
 use Rattle.batch.specs.declared.Ran.{Ran}
+use Rattle.batch.proofs.Numbers.{bytes-take}
 use Rattle.batch.proofs.GoingOn.{far, did-call, did-all, within}
 use Rattle.batch.proofs.Promises.{counted}
 use Rattle.report.specs.Text.{lineMost, rendered, Rendering}
 use Rattle.report.specs.Text as report
 use Rattle.report.specs.declared.Rendered.{Rendered}
-use Rattle.report.proofs.Littles.{Bytes}
 use Rattle.report.proofs.Texts.{rendered-all}
 use Rattle.turn.specs.Turn.{roomOf, turning, turnOf, seen}
 
@@ -155,16 +155,6 @@ room-least o t f g = go (ltb (t / lineMost * verdictSize) o)
 pub room-in : (o t n : ℕ) → n ≡ roomOf o t → n ≤ o
 room-in o t n h = rw h (room-fits o t .0)
 
-none-bytes : (i : ℕ) → getD {A = ℕ} [] i 0 < 256
-none-bytes zero = omega arith
-none-bytes (suc i) = omega arith
-
-bytes-take : (n : ℕ) (l : List ℕ) → Bytes l → Bytes (take n l)
-bytes-take zero l b i = none-bytes i
-bytes-take (suc n) [] b i = none-bytes i
-bytes-take (suc n) (x ∷ l) b zero = b 0
-bytes-take (suc n) (x ∷ l) b (suc i) = bytes-take n l (λ k. b (suc k)) i
-
 -- one turn, from what `run` and `lines` ensure
 module _ (held : List ℕ) (offset : ℕ) (out text₀ : List ℕ) (budget n : ℕ) (hn : n ≡ roomOf (length out) (length text₀))
     (r : Ran) (last : List ℕ) (q : walk.seen r last ≡ callOf held offset (take n out) budget) (inside : r .written ≤ length last) where
@@ -183,7 +173,7 @@ module _ (held : List ℕ) (offset : ℕ) (out text₀ : List ℕ) (budget n : �
     all-lines =
         rw (take-append-le (r .written) last (drop n out) inside) at
         (l ∙ rendered-all (r .judged) (take (r .written) (last ++ drop n out)) text₀
-        (bytes-take (r .written) (last ++ drop n out) b) (sym verdicts-are ∙ sizes .size)
+        (bytes-take (last ++ drop n out) (r .written) b) (sym verdicts-are ∙ sizes .size)
         (omega (arith, sizes .size, sizes .room, length-take-le n out (room-in (length out) (length text₀) n hn), hn, room-fits (length out) (length text₀) .1)))
 
     by-call : seen (record { stop = r .stop; judged = r .judged; read = r .read; text = t .written }) (last ++ drop n out) text₁
