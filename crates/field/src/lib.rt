@@ -70,7 +70,8 @@ fn iban_field(value: &[u8]) -> Answer
     }
 }
 
-// The other rules accept ASCII only, so that a field is looked at for UTF-8 only where its rule refuses it.
+// The other rules accept ASCII only, so that a field is looked at for UTF-8 only where its rule refuses it. What is lent on there has a name
+// of its own, so that the field stays in registers where its rule accepts it.
 pub fn check_field(kind: u16, value: &[u8]) -> Answer
     ensures { λ r. ⌜ r ≡ checkField kind (now (value .entry)) ⌝ }
 {
@@ -78,12 +79,16 @@ pub fn check_field(kind: u16, value: &[u8]) -> Answer
         return iban_field(value);
     }
     if FIELD_LIMIT < value.len() {
-        return admit(kind, value).or_accept(0);
+        let lent = value;
+        return admit(kind, lent).or_accept(0);
     }
     match rule(kind, value) {
         Answer::Accepted(n) => Answer::Accepted(n),
-        Answer::Refused(reason, check) => admit(kind, value)
-            .then(Step::Stop(reason, check))
-            .or_accept(0),
+        Answer::Refused(reason, check) => {
+            let lent = value;
+            admit(kind, lent)
+                .then(Step::Stop(reason, check))
+                .or_accept(0)
+        }
     }
 }
