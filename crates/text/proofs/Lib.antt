@@ -4,4 +4,5 @@ pub mod Classes
 pub mod Decimals
 pub mod Fields
 pub mod Low
+pub mod Near
 pub mod Worked
