@@ -1,4 +1,5 @@
 -- The laws and theorems of `amount`.
 pub mod Zeros
 pub mod Accepted
+pub mod Places
 pub mod Worked

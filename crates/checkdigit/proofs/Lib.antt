@@ -6,5 +6,6 @@ pub mod Place
 pub mod Errors
 pub mod Iban
 pub mod Fill
+pub mod Places
 pub mod Promises
 pub mod Worked

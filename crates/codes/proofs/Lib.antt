@@ -1,3 +1,4 @@
 -- The laws and theorems of `codes`.
 pub mod Laws
+pub mod Places
 pub mod Worked

@@ -1,4 +1,5 @@
 -- The laws and theorems of `common`.
 pub mod Reading
 pub mod Accepted
+pub mod Places
 pub mod Worked

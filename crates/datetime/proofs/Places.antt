@@ -10,7 +10,7 @@ use Rattle.answer.specs.Steps.{must}
 use Rattle.answer.specs.declared.Reason.the-variants.{Missing}
 use Rattle.answer.specs.declared.Step.the-variants.{Pass}
 use Rattle.answer.proofs.Laws.{test-held, both-pass}
-use Rattle.text.proofs.Near.{Near, Small, Short, near-after, small-accept, nears}
+use Rattle.text.proofs.Near.{Near, Small, Short, near-after, nears}
 use Rattle.datetime.specs.Date.{check, datePart, dateAnswer}
 use Rattle.datetime.specs.Datetime.{zonePlace, lengthFrom, clockPart, fractionPart, endsAt, offsetPart, zonePart, timePart, datetimeAnswer}
 
@@ -21,7 +21,7 @@ module _ (s : List ℕ) (h : Short s) where
 
   pub date-small : Small (dateAnswer s)
   unfolding dateAnswer
-  date-small = small-accept _ 0 (search (nears, part-near)) (λ e. omega arith)
+  date-small = search (nears, part-near) depth 9
 
   clock-near : (kind : ℕ) → Near (clockPart s kind)
   unfolding clockPart
@@ -35,7 +35,6 @@ module _ (s : List ℕ) (h : Short s) where
   offset-near : (at kind : ℕ) → at ≤ length s → Near (offsetPart s at kind)
   unfolding offsetPart endsAt
   offset-near at kind i =
-      let l : length s < 2 ^ 16 = omega arith in
       let a : at + 19 < 2 ^ 16 = omega arith in
       let b : at + 2 < 2 ^ 16 = omega arith in
       let c : at + 3 + 19 < 2 ^ 16 = omega arith in
@@ -48,7 +47,6 @@ module _ (s : List ℕ) (h : Short s) where
   zone-near : (at kind : ℕ) → Near (zonePart s at kind)
   unfolding zonePart endsAt
   zone-near at kind =
-      let l : length s < 2 ^ 16 = omega arith in
       near-after _ _ (near-after _ _ (search nears) (λ e. let f : at < 2 ^ 16 = omega (arith, inside at (check kind 20) e) in search nears))
       (λ e. let g = inside at (check kind 20) (both-pass _ _ e .0) in
       let f : at + 1 < 2 ^ 16 = omega arith in
@@ -60,6 +58,4 @@ module _ (s : List ℕ) (h : Short s) where
 
   pub datetime-small : Small (datetimeAnswer s)
   unfolding datetimeAnswer lengthFrom
-  datetime-small =
-      let l : length s < 2 ^ 64 = omega arith in
-      small-accept _ 0 (search (nears, part-near, time-near)) (λ e. omega arith)
+  datetime-small = search (nears, part-near, time-near) depth 9

@@ -3,4 +3,5 @@ pub mod Lefts
 pub mod Classes
 pub mod Holding
 pub mod Verdict
+pub mod Places
 pub mod Worked

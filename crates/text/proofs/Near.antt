@@ -96,6 +96,26 @@ pub near-present : (at end k : ℕ) → at < 2 ^ 16 → Near (present at end k)
 unfolding present
 near-present at end k h = near-must (ltb at end) (Missing at) k h (omega arith)
 
+pub short-place : (s : List ℕ) → Short s → length s < 2 ^ 16
+short-place s h = omega arith
+
+pub short-value : (s : List ℕ) → Short s → length s < 2 ^ 64
+short-value s h = omega arith
+
 -- for `search`: the law of each step, and the test that compares two numbers written out
-pub ruleset nears =
-    (near-pass, near-must, near-pick, near-then, near-length, near-wrong, near-first, near-literal, near-digits, near-present, leb→le)
+pub ruleset nears = (
+  near-pass,
+  near-must,
+  near-pick,
+  near-then,
+  small-accept,
+  near-length,
+  near-wrong,
+  near-first,
+  near-literal,
+  near-digits,
+  near-present,
+  short-place,
+  short-value,
+  leb→le,
+)
