@@ -5,5 +5,6 @@ pub mod Laws
 pub mod Records
 pub mod Count
 pub mod GoingOn
+pub mod Whole
 pub mod Promises
 pub mod Worked

@@ -1,4 +1,5 @@
 -- What is promised of a call: it judges the first of the whole records, at least one where it can; going on gives what one call gives; and no two records share an identity.
+-- That nothing is lost in a verdict's bytes stands in Whole.antt.
 -- Assumes nothing.
 use Prim.Native.Nat.{ℕ, _+_, _^_, _≤_, _<_}
 use mathlib.Core.Path.{_≡_, refl, sym, ap, _∙_}
