@@ -1,4 +1,5 @@
 -- A number's digits write the number, are the fewest that do, and have no leading zero but for 0 itself; the argument reads them back.
+-- A verdict's line shows its offset, its kind and its answer's three numbers.
 -- Assumes nothing.
 use Prim.Native.Nat.{ℕ, _+_, _/_, _%_, _^_, _≤_, _<_}
 use mathlib.Core.Path.{_≡_, _∙_}
@@ -6,14 +7,20 @@ use mathlib.Core.List.{List, [], _∷_, _++_}
 use native.Mathlib.Omega.{arith}
 use lib.Dec.{T}
 use lib.ListN.{length, getD, List·getD-append}
+use Rattle.answer.specs.Table as answer
+use Rattle.answer.specs.declared.Answer.{Answer}
 use Rattle.text.specs.Class.{isDigit}
 use Rattle.text.specs.Decimal.{decimal, numberOf}
 use Rattle.text.proofs.Classes.{is-digit}
 use Rattle.text.proofs.Decimals.{number-append, fits}
+use Rattle.text.proofs.Near.{Small}
 use Rattle.text.proofs.Ranges.{both-parts, both-of}
+use Rattle.batch.specs.Verdict.{verdict}
+use Rattle.batch.proofs.Whole.{Reads, verdict-reads}
 use Rattle.report.specs.declared.Offset.the-variants.{Is}
 use Rattle.report.specs.Digits.{digitsOf}
 use Rattle.report.specs.Offset.{digitsOnly, offsetOf}
+use Rattle.report.specs.Text.{row, line}
 use Rattle.report.proofs.Digits.{small, more, by-tens, least, most}
 use Rattle.report.proofs.Arguments.{only-passes, only-most, given}
 
@@ -56,3 +63,13 @@ pub argument : (x : ℕ) → x < 2 ^ 64 → offsetOf (digitsOf x) ≡ Is x
 argument x h =
     given (digitsOf x) 0 (λ z. omega (arith, least x)) (only-passes (digitsOf x) 0 (digits-only x))
     ∙ rw (reads-back x, ← fits x h)
+
+-- the line of a verdict that says these numbers
+pub line-reads : (v : List ℕ) (kind offset : ℕ) (a : Answer) → Reads v kind offset a
+    → line v ≡ row (offset ∷ kind ∷ answer.numberOf a ∷ answer.placeOf a ∷ answer.valueOf a ∷ [])
+unfolding line
+line-reads v kind offset a r = rw (r .offset, r .kind, r .number, r .place, r .value)
+
+pub line-says : (kind offset : ℕ) (a : Answer) (rest : List ℕ) → kind < 2 ^ 16 → offset < 2 ^ 64 → Small a
+    → line (verdict kind offset a ++ rest) ≡ row (offset ∷ kind ∷ answer.numberOf a ∷ answer.placeOf a ∷ answer.valueOf a ∷ [])
+line-says kind offset a rest f g h = line-reads (verdict kind offset a ++ rest) kind offset a (verdict-reads kind offset a rest f g h)
