@@ -12,7 +12,7 @@ use Rattle.answer.specs.declared.Step.the-variants.{Pass}
 use Rattle.answer.proofs.Laws.{test-held, both-pass}
 use Rattle.text.proofs.Near.{Near, Small, Short, near-after, nears}
 use Rattle.datetime.specs.Date.{check, datePart, dateAnswer}
-use Rattle.datetime.specs.Datetime.{zonePlace, lengthFrom, clockPart, fractionPart, endsAt, offsetPart, zonePart, timePart, datetimeAnswer}
+use Rattle.datetime.specs.Datetime.{lengthFrom, clockPart, fractionPart, endsAt, offsetPart, zonePart, timePart, datetimeAnswer}
 
 module _ (s : List ℕ) (h : Short s) where
   part-near : (kind : ℕ) → Near (datePart s kind)

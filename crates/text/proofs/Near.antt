@@ -11,7 +11,7 @@ use Rattle.answer.specs.Choice.{pick}
 use Rattle.answer.specs.Steps.{must, _andThen_, _orAccept_}
 use Rattle.answer.specs.Table.{placeOfReason, valueOfReason, placeOf, valueOf}
 use Rattle.answer.specs.declared.Answer.{Answer}
-use Rattle.answer.specs.declared.Answer.the-variants.{Accepted, Refused}
+use Rattle.answer.specs.declared.Answer.the-variants.{Refused}
 use Rattle.answer.specs.declared.Reason.{Reason}
 use Rattle.answer.specs.declared.Reason.the-variants.{Length, Wrong, Range, Missing}
 use Rattle.answer.specs.declared.Step.{Step}
@@ -24,16 +24,16 @@ use Rattle.text.specs.declared.Set.{Set}
 use Rattle.text.specs.declared.Set.the-variants.{Digits}
 use Rattle.text.proofs.Fields.{digits-most}
 
--- of an answer
+-- an answer's two numbers
 pub record Small (a : Answer) : Type 0 where
   pub place : placeOf a < 2 ^ 16
   pub value : valueOf a < 2 ^ 64
 
--- of a step
+-- and a step's, by the answer that it gives where it stops
 pub record Near (st : Step) : Type 0 where
   pub small : (r : Reason) (k : ℕ) → st ≡ Stop r k → Small (Refused r k)
 
--- of a field so short that a place a few bytes past its end is one too
+-- a field so short that a place a few bytes past its end fits too
 abbrev pub Short : List ℕ → Type 0
 Short s = length s < 65000
 
@@ -65,6 +65,14 @@ unfolding _orAccept_
 small-accept Pass n p q = record { place = omega arith; value = q refl }
 small-accept (Stop r k) n p q = p .small r k refl
 
+pub near-present : (at end k : ℕ) → at < 2 ^ 16 → Near (present at end k)
+unfolding present
+near-present at end k h = near-must (ltb at end) (Missing at) k h (omega arith)
+
+pub near-range : (at low high n k : ℕ) → at < 2 ^ 16 → n < 2 ^ 64 → Near (inRange at low high n k)
+unfolding inRange
+near-range at low high n k h v = near-must (within low high n) (Range at n) k h v
+
 module _ (s : List ℕ) where
   pub near-length : (n k : ℕ) → Short s → Near (lengthIs n s k)
   unfolding lengthIs
@@ -84,17 +92,12 @@ module _ (s : List ℕ) where
   unfolding literalAt
   near-literal at b k h = near-must (eqb (getD s at 0) b) (Wrong at) k h (omega arith)
 
-  -- as many digits as fit
+  -- no more digits than write a number below 2^64
   pub near-digits : (n at low high k : ℕ) → n ≤ 19 → at + 19 < 2 ^ 16 → Near (digitsIn n s at low high k)
-  unfolding digitsIn inRange
+  unfolding digitsIn
   near-digits n at low high k m h =
-      let x = numberOf (take n (drop at s)) in
       near-after _ _ (near-wrong Digits at n k (omega arith))
-      (λ e. near-must (within low high x) (Range at x) (k + 1) (omega arith) (omega (arith, digits-most s at n k 19 m e)))
-
-pub near-present : (at end k : ℕ) → at < 2 ^ 16 → Near (present at end k)
-unfolding present
-near-present at end k h = near-must (ltb at end) (Missing at) k h (omega arith)
+      (λ e. near-range at low high (numberOf (take n (drop at s))) (k + 1) (omega arith) (omega (arith, digits-most s at n k 19 m e)))
 
 pub short-place : (s : List ℕ) → Short s → length s < 2 ^ 16
 short-place s h = omega arith
@@ -102,19 +105,20 @@ short-place s h = omega arith
 pub short-value : (s : List ℕ) → Short s → length s < 2 ^ 64
 short-value s h = omega arith
 
--- for `search`: the law of each step, and the test that compares two numbers written out
+-- for `search`: the law of each step, what a short field gives, and the test that compares two numbers written out
 pub ruleset nears = (
   near-pass,
   near-must,
   near-pick,
   near-then,
   small-accept,
+  near-present,
+  near-range,
   near-length,
   near-wrong,
   near-first,
   near-literal,
   near-digits,
-  near-present,
   short-place,
   short-value,
   leb→le,

@@ -1,5 +1,6 @@
 -- The laws and theorems of `turn`.
 pub mod Laws
 pub mod Cutting
+pub mod Rows
 pub mod Promises
 pub mod Worked

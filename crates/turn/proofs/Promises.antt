@@ -1,22 +1,47 @@
 -- What is promised of the program's run: bytes come in and calls are made in any order, with any budgets and outputs; where the last call does not pause, all is as one call over the whole input gives it.
+-- And of the text: it is a row for each record, of its offset, its kind and the three numbers of its field's answer.
 -- Assumes nothing.
 use Prim.Native.Nat.{ℕ, _+_, _^_, _≤_, _<_}
 use mathlib.Core.Path.{_≡_, sym, ap, _∙_}
 use mathlib.Core.Bool.{false}
 use mathlib.Core.List.{List, _++_}
 use native.Mathlib.Omega.{arith}
-use lib.ListN.{length}
+use lib.ListN.{length, take}
+use lib.Seq.{take-length}
 use Rattle.batch.specs.Records.{recordsOf, verdictsOf}
 use Rattle.batch.specs.Walk.{callOf}
 use Rattle.batch.specs.GoingOn.{Sum, sumOf, pauses, allOf, Call}
 use Rattle.batch.specs.declared.Stop.the-variants.{Long}
-use Rattle.batch.proofs.Records.{length-verdictsOf}
-use Rattle.batch.proofs.GoingOn.{did-all, all-in-one}
+use Rattle.batch.proofs.Records.{length-verdictsOf, walks}
+use Rattle.batch.proofs.GoingOn.{did-call, did-all, all-in-one}
 use Rattle.report.specs.Text.{text, heading}
+use Rattle.report.proofs.Littles.{Bytes}
 use Rattle.turn.specs.Turn.{linesOf}
 use Rattle.turn.specs.Stream.{Event, Stream, started, called, feed, input}
 use Rattle.turn.specs.Output.{lastOf, outputOf}
 use Rattle.turn.proofs.Cutting.{ended, long-on}
+use Rattle.turn.proofs.Rows.{rowsOf, text-rows}
+
+module _ (batch : List ℕ) (offset : ℕ) (b : Bytes batch) (h : offset + length batch < 2 ^ 64) where
+  -- the lines of a call are the rows of the records that it judged
+  pub call-rows : (out : List ℕ) (budget : ℕ)
+      → let r = callOf batch offset out budget in
+      linesOf r ≡ rowsOf (take (r .judged) (recordsOf batch offset))
+  call-rows out budget =
+      let r = callOf batch offset out budget in
+      let d = did-call batch offset out budget h .part in
+      ap (text (r .judged)) (d .bytes) ∙ text-rows (walks batch offset) b h (r .judged) (d .most)
+
+  -- and those of all the records
+  pub all-rows : text (length (recordsOf batch offset)) (verdictsOf (recordsOf batch offset)) ≡ rowsOf (recordsOf batch offset)
+  all-rows =
+      let es = recordsOf batch offset in
+      rw take-length at (text-rows (walks batch offset) b h (length es) (omega arith))
+
+  -- so these stand between the heading and the last line
+  pub output-rows : outputOf batch offset ≡ heading ++ (rowsOf (recordsOf batch offset) ++ lastOf (allOf batch offset))
+  unfolding outputOf
+  output-rows = ap (λ (t : List ℕ). heading ++ (t ++ lastOf (allOf batch offset))) all-rows
 
 module _ (es : List Event) (c : Call) (offset : ℕ) (h : offset + length (input es) < 2 ^ 64) where
   abbrev run : Stream

@@ -1,0 +1,57 @@
+-- The text of records: a row for each, of its offset, its kind and the three numbers of its field's answer.
+-- Assumes nothing.
+use Prim.Native.Nat.{ℕ, zero, suc, _+_, _^_, _≤_, _<_}
+use mathlib.Core.Path.{_≡_, refl}
+use mathlib.Core.List.{List, [], _∷_, _++_}
+use native.Mathlib.Omega.{arith}
+use lib.ListN.{length, take, drop, length-take, length-drop}
+use lib.Seq.{drop-at}
+use Rattle.answer.specs.Table.{numberOf, placeOf, valueOf}
+use Rattle.field.specs.Field.{checkField}
+use Rattle.batch.specs.Head.{headOf}
+use Rattle.batch.specs.Verdict.{verdictSize}
+use Rattle.batch.specs.Records.{Entry, entryAt, verdictOf, verdictsOf}
+use Rattle.batch.specs.declared.Head.the-variants.{Record}
+use Rattle.batch.proofs.Heads.{whole}
+use Rattle.batch.proofs.Laws.{length-verdictOf}
+use Rattle.batch.proofs.Records.{Walks, none, one}
+use Rattle.batch.proofs.Whole.{Holds, record-reads}
+use Rattle.report.specs.Text.{row, text}
+use Rattle.report.proofs.Littles.{Bytes, bytes-drop, number-most}
+use Rattle.report.proofs.Promises.{line-reads}
+
+abbrev pub rowOf : Entry → List ℕ
+rowOf e =
+    let a = checkField (e .kind) (e .value) in
+    row (e .offset ∷ e .kind ∷ numberOf a ∷ placeOf a ∷ valueOf a ∷ [])
+
+abbrev pub rowsOf : List Entry → List ℕ
+rowsOf [] = []
+rowsOf (e ∷ es) = rowOf e ++ rowsOf es
+
+-- a whole record at the start of a batch of bytes: a verdict holds its numbers
+holds : (s : List ℕ) (o k n : ℕ) → headOf s ≡ Record k n → Bytes s → o < 2 ^ 64 → Holds (entryAt s o k n)
+holds s o k n e b h =
+    let w = whole s k n e in
+    record {
+      kind = omega (arith, w .kind, number-most s b 2 2);
+      offset = h;
+      size = omega (arith, w .legal, length-take n (drop 4 s));
+    }
+
+-- the lines of the verdicts of the first j records are these records' rows
+pub text-rows : {s : List ℕ} {o : ℕ} {es : List Entry} → Walks s o es → Bytes s → o + length s < 2 ^ 64 → (j : ℕ) → j ≤ length es
+    → text j (verdictsOf (take j es)) ≡ rowsOf (take j es)
+unfolding text verdictsOf
+text-rows w b far zero h = refl
+text-rows (none e) b far (suc j) h = absurd (omega arith)
+text-rows {s} {o} (one k n es e w) b far (suc j) h =
+    let a = entryAt s o k n in
+    let v = verdictsOf (take j es) in
+    let f = whole s k n e .fits in
+    let i = text-rows w (bytes-drop s (4 + n) b) (omega (arith, length-drop (4 + n) s)) j (omega arith) in
+    rw (
+      line-reads (verdictOf a ++ v) k o (checkField k (a .value)) (record-reads a v (holds s o k n e b (omega arith))),
+      drop-at (verdictOf a) v verdictSize (length-verdictOf a),
+      i,
+    )
