@@ -8,6 +8,7 @@ use mathlib.Core.List.{List, _++_}
 use native.Mathlib.Omega.{arith}
 use lib.ListN.{length, take}
 use lib.Seq.{take-length}
+use Rattle.batch.specs.Number.{Bytes}
 use Rattle.batch.specs.Records.{recordsOf, verdictsOf}
 use Rattle.batch.specs.Walk.{callOf}
 use Rattle.batch.specs.GoingOn.{Sum, sumOf, pauses, allOf, Call}
@@ -15,12 +16,12 @@ use Rattle.batch.specs.declared.Stop.the-variants.{Long}
 use Rattle.batch.proofs.Records.{length-verdictsOf, walks}
 use Rattle.batch.proofs.GoingOn.{did-call, did-all, all-in-one}
 use Rattle.report.specs.Text.{text, heading}
-use Rattle.report.proofs.Littles.{Bytes}
 use Rattle.turn.specs.Turn.{linesOf}
 use Rattle.turn.specs.Stream.{Event, Stream, started, called, feed, input}
 use Rattle.turn.specs.Output.{lastOf, outputOf}
+use Rattle.turn.specs.Rows.{rowsOf}
 use Rattle.turn.proofs.Cutting.{ended, long-on}
-use Rattle.turn.proofs.Rows.{rowsOf, text-rows}
+use Rattle.turn.proofs.Rows.{text-rows}
 
 module _ (batch : List ℕ) (offset : ℕ) (b : Bytes batch) (h : offset + length batch < 2 ^ 64) where
   -- the lines of a call are the rows of the records that it judged

@@ -1,33 +1,25 @@
--- The text of records: a row for each, of its offset, its kind and the three numbers of its field's answer.
+-- The lines of records' verdicts are these records' rows.
 -- Assumes nothing.
 use Prim.Native.Nat.{ℕ, zero, suc, _+_, _^_, _≤_, _<_}
 use mathlib.Core.Path.{_≡_, refl}
-use mathlib.Core.List.{List, [], _∷_, _++_}
+use mathlib.Core.List.{List, _++_}
 use native.Mathlib.Omega.{arith}
 use lib.ListN.{length, take, drop, length-take, length-drop}
 use lib.Seq.{drop-at}
-use Rattle.answer.specs.Table.{numberOf, placeOf, valueOf}
 use Rattle.field.specs.Field.{checkField}
+use Rattle.batch.specs.Number.{Bytes}
 use Rattle.batch.specs.Head.{headOf}
 use Rattle.batch.specs.Verdict.{verdictSize}
 use Rattle.batch.specs.Records.{Entry, entryAt, verdictOf, verdictsOf}
 use Rattle.batch.specs.declared.Head.the-variants.{Record}
+use Rattle.batch.proofs.Numbers.{bytes-drop, number-most}
 use Rattle.batch.proofs.Heads.{whole}
 use Rattle.batch.proofs.Laws.{length-verdictOf}
 use Rattle.batch.proofs.Records.{Walks, none, one}
 use Rattle.batch.proofs.Whole.{Holds, record-reads}
-use Rattle.report.specs.Text.{row, text}
-use Rattle.report.proofs.Littles.{Bytes, bytes-drop, number-most}
+use Rattle.report.specs.Text.{text}
 use Rattle.report.proofs.Promises.{line-reads}
-
-abbrev pub rowOf : Entry → List ℕ
-rowOf e =
-    let a = checkField (e .kind) (e .value) in
-    row (e .offset ∷ e .kind ∷ numberOf a ∷ placeOf a ∷ valueOf a ∷ [])
-
-abbrev pub rowsOf : List Entry → List ℕ
-rowsOf [] = []
-rowsOf (e ∷ es) = rowOf e ++ rowsOf es
+use Rattle.turn.specs.Rows.{rowsOf}
 
 -- a whole record at the start of a batch of bytes: a verdict holds its numbers
 holds : (s : List ℕ) (o k n : ℕ) → headOf s ≡ Record k n → Bytes s → o < 2 ^ 64 → Holds (entryAt s o k n)

@@ -2,3 +2,4 @@
 pub mod Turn
 pub mod Stream
 pub mod Output
+pub mod Rows
