@@ -1,7 +1,6 @@
 // Cents of an amount, kinds 9 (strict) and 10 (lenient): a whole number, and after a `.` its hundredths.
 ghost use mathlib.Core.Path.{_≡_};
-ghost use Prim.Native.Nat.{_+_, _*_, _^_, _≤_, _<_};
-ghost use lib.Dec.{ltb};
+ghost use Prim.Native.Nat.{_+_, _*_, _≤_};
 ghost use lib.ListN.{length};
 ghost use Rattle.answer.specs.Steps.{_orAccept_};
 ghost use Rattle.text.specs.Field.{firstPlace};
@@ -59,17 +58,6 @@ fn long_digits(s: &[u8], at: usize, to: usize, check: u16) -> Parsed
     }
 }
 
-// Whether a number with one decimal digit more is below 2^64. Below 10^18 it always is, and no division is made.
-fn has_room(n: u64, d: u64) -> bool
-    requires { ⌜ d < 10 ⌝ }
-    ensures { λ r. ⌜ r ≡ ltb (n * 10 + d) (2 ^ 64) ⌝ }
-{
-    if n < 1_000_000_000_000_000_000 {
-        return true;
-    }
-    n <= (18_446_744_073_709_551_615 - d) / 10
-}
-
 // Digits in one pass, as long as their number is below 2^64.
 fn digits(s: &[u8], at: usize, to: usize, check: u16) -> Parsed
     requires { ⌜ (at ≤ to) × (to ≤ length (now s)) × (check ≤ 2000) ⌝ }
@@ -83,7 +71,7 @@ fn digits(s: &[u8], at: usize, to: usize, check: u16) -> Parsed
             return Parsed::Not(Reason::Wrong { place: i }, check as u32);
         }
         let d = (b - 48) as u64;
-        if has_room(n, d) {
+        if text::has_room(n, d) {
             n = n * 10 + d;
             i += 1;
         } else {

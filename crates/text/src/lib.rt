@@ -1,7 +1,7 @@
 // Bytes of a field: their classes, the numbers that digits write, and the steps that the rules share.
 ghost use mathlib.Core.Path.{_≡_};
-ghost use Prim.Native.Nat.{_+_, _*_, _<_, _≤_};
-ghost use lib.Dec.{eqb};
+ghost use Prim.Native.Nat.{_+_, _*_, _^_, _<_, _≤_};
+ghost use lib.Dec.{eqb, ltb};
 ghost use lib.ListN.{length, getD, take, drop};
 ghost use Rattle.text.specs.Ranges.{within};
 ghost use Rattle.text.specs.Class.{classOf, holds, allowed};
@@ -134,15 +134,21 @@ fn digit(b: u8) -> u64
     if b < 48 { 0 } else { wide(b - 48) }
 }
 
-// A number with one decimal digit more. Below 10^18 it always fits, and no division is made.
+// Whether a number with one decimal digit more is below 2^64.
+pub fn has_room(n: u64, d: u64) -> bool
+    ensures { λ r. ⌜ r ≡ ltb (n * 10 + d) (2 ^ 64) ⌝ }
+{
+    if n <= 1_844_674_407_370_955_161 {
+        return d <= 18_446_744_073_709_551_615 - n * 10;
+    }
+    false
+}
+
+// A number with one decimal digit more.
 fn with_digit(n: u64, d: u64) -> Number
-    requires { ⌜ d < 256 ⌝ }
     ensures { λ r. ⌜ r ≡ fitted (n * 10 + d) ⌝ }
 {
-    if n < 1_000_000_000_000_000_000 {
-        return Number::Fits(n * 10 + d);
-    }
-    if n <= (18_446_744_073_709_551_615 - d) / 10 {
+    if has_room(n, d) {
         return Number::Fits(n * 10 + d);
     }
     Number::Over

@@ -68,7 +68,7 @@ cast-d : tie.Need-cast-d Inv-loop μ-loop
 cast-d c = omega (arith, ends c)
 
 has-room-requires : tie.Need-has-room-requires Inv-loop μ-loop
-has-room-requires c κs = omega (arith, ends c)
+has-room-requires c κs = search needs
 
 mul-n : tie.Need-mul-n Inv-loop μ-loop
 mul-n c = omega (arith, sum-fits c)

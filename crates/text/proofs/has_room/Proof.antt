@@ -1,4 +1,4 @@
--- `common::has_room` meets its contract: below 10^18 the sum always fits; above, the second test is the limit itself.
+-- `text::has_room` meets its contract: up to a tenth of the limit the test is what is left below it; above, ten times the number is past it.
 -- Assumes nothing.
 use Prim.Native.Nat.{ℕ, _+_, _*_, _^_, _≤_, _<_}
 use mathlib.Core.Bool.{Bool, true, false}
@@ -7,8 +7,8 @@ use native.Mathlib.Omega.{arith}
 use borrow.Author.Tests.{leb-true, leb-false, lt-ltb, le-ltb}
 use borrow.Author.Needs.{needs}
 use lib.Dec.{leb, ltb}
-use Rattle.common.proofs.has_room.Statement.{statement}
-use Rattle.common.proofs.has_room.Tie as tie
+use Rattle.text.proofs.has_room.Statement.{statement}
+use Rattle.text.proofs.has_room.Tie as tie
 
 -- two tests that agree
 same : (a b c d : ℕ) → (a ≤ b → c < d) → (b < a → d ≤ c) → leb a b ≡ ltb c d
@@ -18,14 +18,17 @@ same a b c d f g = go (leb a b) refl
     go true e = sym (lt-ltb c d (f (leb-true a b e)))
     go false e = sym (le-ltb c d (g (leb-false a b e)))
 
-returns : tie.Need-returns
-returns c = let a = c .before .args in sym (lt-ltb (a .n * 10 + a .d) (2 ^ 64) (omega arith))
+mul-result : tie.Need-mul-result
+mul-result c = search needs
 
 sub-result : tie.Need-sub-result
 sub-result c = search needs
 
+returns : tie.Need-returns
+returns c = let a = c .before .args in same (a .d) _ (a .n * 10 + a .d) (2 ^ 64) (λ h. omega arith) (λ h. omega arith)
+
 returns-2 : tie.Need-returns-2
-returns-2 c = let a = c .before .args in same (a .n) _ (a .n * 10 + a .d) (2 ^ 64) (λ h. omega arith) (λ h. omega arith)
+returns-2 c = let a = c .before .args in sym (le-ltb (a .n * 10 + a .d) (2 ^ 64) (omega arith))
 
 pub has-room-spec : {M : Type 1} → statement M
-has-room-spec = tie.close (tie.spec returns sub-result returns-2)
+has-room-spec = tie.close (tie.spec mul-result sub-result returns returns-2)
