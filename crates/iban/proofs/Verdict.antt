@@ -97,7 +97,7 @@ few s e =
     let q = both-pass (each isAscii (left s) 101) (countStep (length (left s))) (p .0) in
     rw (length-text (left s)) (counted (length (left s)) (q .1))
 
-held-step : (x : Step) (t : List ℕ) → heldBy x t .step ≡ x
+pub held-step : (x : Step) (t : List ℕ) → heldBy x t .step ≡ x
 unfolding heldBy
 held-step Pass t = refl
 held-step (Stop r k) t = refl

@@ -16,7 +16,7 @@ use Rattle.answer.specs.declared.Reason.{Reason}
 use Rattle.answer.specs.declared.Reason.the-variants.{NoPlace, Unfit, Remainder}
 use Rattle.answer.specs.declared.Step.{Step}
 use Rattle.answer.specs.declared.Step.the-variants.{Pass, Stop}
-use Rattle.answer.proofs.Laws.{passes, accepted-pass, test-held}
+use Rattle.answer.proofs.Laws.{passes, both-pass, accepted-pass, test-held}
 use Rattle.text.specs.Class.{allowed}
 use Rattle.text.specs.declared.Set.the-variants.{LettersDigits}
 use Rattle.checkdigit.specs.Letter.{Slip}
@@ -29,7 +29,7 @@ use Rattle.sheet.specs.Repairs.{Request, filled, asked, placeStep, byteS
 use Rattle.sheet.specs.Repairs.Request.{Replace, Exchange, Fill}
 use Rattle.sheet.specs.Calls.{toldBy, heldBack}
 use Rattle.sheet.specs.declared.Sheet.{Sheet}
-use Rattle.sheet.proofs.Fits.{Fit, by-kind, both-passed, fit-plain, fit-few, plain-fit}
+use Rattle.sheet.proofs.Fits.{Fit, by-kind, fit-plain, fit-few, plain-fit}
 use Rattle.sheet.proofs.Loads.{fresh, lastCheck}
 use Rattle.sheet.proofs.Sheets.{Stood, held-of, sheet-stood}
 use Rattle.sheet.proofs.Repairs.{place-passed, byte-passed, text-passed, sheet-passes, plain-set, fit-filled}
@@ -38,12 +38,12 @@ use Rattle.sheet.proofs.Repairs.{place-passed, byte-passed, text-passed
 pub asked-fit : (kind : ℕ) (t : List ℕ) (q : Request) → Fit kind t → requestSteps kind t q ≡ Pass → Fit kind (asked kind t q)
 unfolding requestSteps asked
 asked-fit kind t (Replace p b) f e =
-    let x = both-passed (placeStep (length t) p andThen byteStep p b) (textStep kind (set t p b)) e in
-    let y = both-passed (placeStep (length t) p) (byteStep p b) (x .0) in
+    let x = both-pass (placeStep (length t) p andThen byteStep p b) (textStep kind (set t p b)) e in
+    let y = both-pass (placeStep (length t) p) (byteStep p b) (x .0) in
     plain-fit kind (set t p b) (f .known) (plain-set t p b (fit-plain kind t f) (byte-passed p b (y .1))) (text-passed kind (set t p b) (x .1))
 asked-fit kind t (Exchange i j) f e =
-    let x = both-passed (placeStep (length t) i andThen placeStep (length t) j) (textStep kind (exchanged t i j)) e in
-    let y = both-passed (placeStep (length t) i) (placeStep (length t) j) (x .0) in
+    let x = both-pass (placeStep (length t) i andThen placeStep (length t) j) (textStep kind (exchanged t i j)) e in
+    let y = both-pass (placeStep (length t) i) (placeStep (length t) j) (x .0) in
     let p = fit-plain kind t f in
     plain-fit kind (exchanged t i j) (f .known)
     (plain-set (set t i (getD t j 0)) j (getD t i 0) (plain-set t i (getD t j 0) p (p j (place-passed (length t) j (y .1)))) (p i (place-passed (length t) i (y .0))))

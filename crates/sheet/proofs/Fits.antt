@@ -16,7 +16,7 @@ use Rattle.answer.specs.declared.Reason.{Reason}
 use Rattle.answer.specs.declared.Reason.the-variants.{Wrong, Length}
 use Rattle.answer.specs.declared.Step.{Step}
 use Rattle.answer.specs.declared.Step.the-variants.{Pass, Stop}
-use Rattle.answer.proofs.Laws.{passes}
+use Rattle.answer.proofs.Laws.{passes, both-pass, test-held}
 use Rattle.text.specs.Ranges.{within}
 use Rattle.text.specs.Class.{classOf, holds, allowed, isDigit}
 use Rattle.text.specs.Field.{lengthIs, wrongFrom, firstWrong}
@@ -36,29 +36,20 @@ use Rattle.lei.specs.Lei.{leiCharacters}
 use Rattle.sheet.specs.Sheets.{Plain, sheetKind, heldText, characters}
 use Rattle.sheet.proofs.Plain.{wider, plain-text, plain-stray}
 
--- what a step that passes has shown
-pub must-passed : (t : Bool) (r : Reason) (k : ℕ) → must t r k ≡ Pass → T t
-must-passed true r k e = tt
-must-passed false r k e = let z : _≡_ {A = ℕ} 0 1 = cc in absurd (omega arith)
-
+-- a step whose test holds passes, and so do two that pass
 pub must-passes : (t : Bool) (r : Reason) (k : ℕ) → T t → must t r k ≡ Pass
 must-passes true r k t = refl
 must-passes false r k t = absurd t
 
-pub both-passed : (a b : Step) → a andThen b ≡ Pass → (a ≡ Pass) × (b ≡ Pass)
-unfolding _andThen_
-both-passed Pass b e = (refl, e)
-both-passed (Stop r k) b e = let z : _≡_ {A = ℕ} 0 1 = cc in absurd (omega arith)
-
-pub both-pass : (a b : Step) → a ≡ Pass → b ≡ Pass → a andThen b ≡ Pass
-both-pass a b p q = passes b p ∙ q
+pub passes-both : (a b : Step) → a ≡ Pass → b ≡ Pass → a andThen b ≡ Pass
+passes-both a b p q = passes b p ∙ q
 
 -- a search passes where each of the bytes is allowed
 none-wrong : (set : Set) (s : List ℕ) (i n k : ℕ) → ((j : ℕ) → j < n → T (allowed set (getD s (i + j) 0))) → wrongFrom set s i n k ≡ Pass
 unfolding wrongFrom
 none-wrong set s i zero k f = refl
 none-wrong set s i (suc n) k f =
-    both-pass (must (allowed set (getD s i 0)) (Wrong i) k) (wrongFrom set s (i + 1) n k)
+    passes-both (must (allowed set (getD s i 0)) (Wrong i) k) (wrongFrom set s (i + 1) n k)
     (must-passes (allowed set (getD s i 0)) (Wrong i) k (rw add-zero at (f zero (omega arith))))
     (none-wrong set s (i + 1) n k (λ j h. let q : i + suc j ≡ i + 1 + j = omega arith in rw q at (f (suc j) (omega arith))))
 
@@ -115,8 +106,8 @@ iban-steps t f =
     let l = fit-few 1 t f in
     let a = wrongFrom Capitals t 0 2 103 in
     let b = wrongFrom Digits t 2 2 104 in
-    both-pass (a andThen b) (wrongFrom LettersDigits t 4 (length t - 4) 105)
-    (both-pass a b
+    passes-both (a andThen b) (wrongFrom LettersDigits t 4 (length t - 4) 105)
+    (passes-both a b
     (none-wrong Capitals t 0 2 103 (λ j h. rw (lt-ltb (0 + j) 2 (omega arith)) at (f .each (0 + j) (omega arith))))
     (none-wrong Digits t 2 2 104 (λ j h. rw (le-ltb (2 + j) 2 (omega arith), lt-ltb (2 + j) 4 (omega arith)) at (f .each (2 + j) (omega arith)))))
     (none-wrong LettersDigits t 4 (length t - 4) 105 (λ j h. rw (le-ltb (4 + j) 2 (omega arith), le-ltb (4 + j) 4 (omega arith)) at (f .each (4 + j) (omega arith))))
@@ -128,8 +119,8 @@ iban-passes t f =
     let n : length (left t) ≡ length t = sym (length-text (left t)) ∙ ap length (plain-text t p) in
     let l = fit-few 1 t f in
     let steps : heldSteps (textOf (left t)) ≡ Pass = ap heldSteps (plain-text t p) ∙ iban-steps t f in
-    both-pass (each isAscii (left t) 101 andThen countStep (length (left t))) (classSteps (left t))
-    (both-pass (each isAscii (left t) 101) (countStep (length (left t))) (plain-stray t p)
+    passes-both (each isAscii (left t) 101 andThen countStep (length (left t))) (classSteps (left t))
+    (passes-both (each isAscii (left t) 101) (countStep (length (left t))) (plain-stray t p)
     (must-passes (within 5 34 (length (left t))) (Length 0 (length (left t))) 102 (rw n (f .long))))
     (class-steps-are (left t) (omega arith) ∙ ap (placed (left t)) steps)
 
@@ -145,8 +136,8 @@ lei-passes t f =
     let n = eqb→eq (length t) 20 (f .long) in
     let a = must (eqb (length t) 20) (Length 0 (length t)) 201 in
     let b = wrongFrom CapitalsDigits t 0 20 202 in
-    both-pass (a andThen b) (wrongFrom Digits t 18 2 203)
-    (both-pass a b (must-passes (eqb (length t) 20) (Length 0 (length t)) 201 (f .long)) (none-wrong CapitalsDigits t 0 20 202 (λ j h. go (0 + j) (ltb (0 + j) 18) refl (f .each (0 + j) (omega arith)))))
+    passes-both (a andThen b) (wrongFrom Digits t 18 2 203)
+    (passes-both a b (must-passes (eqb (length t) 20) (Length 0 (length t)) 201 (f .long)) (none-wrong CapitalsDigits t 0 20 202 (λ j h. go (0 + j) (ltb (0 + j) 18) refl (f .each (0 + j) (omega arith)))))
     (none-wrong Digits t 18 2 203 (λ j h. rw (le-ltb (18 + j) 18 (omega arith)) at (f .each (18 + j) (omega arith))))
   where
     go : (i : ℕ) (b : Bool) → ltb i 18 ≡ b → T (allowed (pick (ltb i 18) CapitalsDigits Digits) (getD t i 0)) → T (allowed CapitalsDigits (getD t i 0))
@@ -172,8 +163,8 @@ iban-fit t low high e =
     let a = wrongFrom Capitals t 0 2 103 in
     let b = wrongFrom Digits t 2 2 104 in
     let d = wrongFrom LettersDigits t 4 (length t - 4) 105 in
-    let p = both-passed (a andThen b) d e in
-    let q = both-passed a b (p .0) in
+    let p = both-pass (a andThen b) d e in
+    let q = both-pass a b (p .0) in
     record { known = tt; long = rw (within-yes 5 34 (length t) low high) tt; each = λ i h. go (q .0) (q .1) (p .1) i h (ltb i 2) (ltb i 4) refl refl }
   where
     go : wrongFrom Capitals t 0 2 103 ≡ Pass → wrongFrom Digits t 2 2 104 ≡ Pass → wrongFrom LettersDigits t 4 (length t - 4) 105 ≡ Pass
@@ -185,7 +176,7 @@ iban-fit t low high e =
 iban-held : (s : List ℕ) → characters 1 s ≡ Pass → Fit 1 (heldText 1 s)
 unfolding characters heldText ibanCharacters
 iban-held s e =
-    let p = both-passed (each isAscii (left s) 101 andThen countStep (length (left s))) (classSteps (left s)) e in
+    let p = both-pass (each isAscii (left s) 101 andThen countStep (length (left s))) (classSteps (left s)) e in
     let n = few s e in
     iban-fit (textOf (left s)) (n .0) (n .1)
     (placed-passed (left s) (heldSteps (textOf (left s))) (sym (class-steps-are (left s) (omega (arith, n .0, length-text (left s)))) ∙ p .1))
@@ -195,9 +186,9 @@ unfolding characters heldText leiCharacters lengthIs firstWrong
 lei-held s e =
     let a = must (eqb (length s) 20) (Length 0 (length s)) 201 in
     let b = wrongFrom CapitalsDigits s 0 20 202 in
-    let p = both-passed (a andThen b) (wrongFrom Digits s 18 2 203) e in
-    let q = both-passed a b (p .0) in
-    let n = must-passed (eqb (length s) 20) (Length 0 (length s)) 201 (q .0) in
+    let p = both-pass (a andThen b) (wrongFrom Digits s 18 2 203) e in
+    let q = both-pass a b (p .0) in
+    let n = test-held (eqb (length s) 20) (Length 0 (length s)) 201 (q .0) in
     record { known = tt; long = n; each = λ i h. go (eqb→eq (length s) 20 n) (q .1) (p .1) i h (ltb i 18) refl }
   where
     go : length s ≡ 20 → wrongFrom CapitalsDigits s 0 20 202 ≡ Pass → wrongFrom Digits s 18 2 203 ≡ Pass → (i : ℕ) → i < length s → (x : Bool) → ltb i 18 ≡ x

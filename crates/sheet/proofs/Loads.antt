@@ -37,7 +37,7 @@ use Rattle.sheet.specs.Load.{refusal, summed, writtenOf, loadOf}
 use Rattle.sheet.specs.declared.Sheet.{Sheet}
 use Rattle.sheet.specs.declared.Repaired.{Repaired}
 use Rattle.sheet.proofs.Plain.{plain-ascii}
-use Rattle.sheet.proofs.Fits.{Fit, by-kind, both-pass, fit-plain, fit-few, fit-passes, held-fit, held-plain}
+use Rattle.sheet.proofs.Fits.{Fit, by-kind, passes-both, fit-plain, fit-few, fit-passes, held-fit, held-plain}
 
 -- a step that never answers 0 or 5
 Quiet : Step → Type 0
@@ -168,8 +168,8 @@ module _ (kind : ℕ) (t : List ℕ) (f : Fit kind t) where
       let a = must (within 1 10 kind) (UnknownKind kind) 1 in
       let b = must (leb (length t) fieldLimit) (TooLong (length t)) 2 in
       let whole : validPrefix t ≡ length t = ascii-prefix t (plain-ascii t (fit-plain kind t f)) in
-      both-pass (a andThen b) (must (eqb (validPrefix t) (length t)) (NotUtf8 (validPrefix t)) 3)
-      (both-pass a b (rw (within-yes 1 10 kind (w .0) (omega arith))) (rw (le-leb (length t) 1024 (omega arith))))
+      passes-both (a andThen b) (must (eqb (validPrefix t) (length t)) (NotUtf8 (validPrefix t)) 3)
+      (passes-both a b (rw (within-yes 1 10 kind (w .0) (omega arith))) (rw (le-leb (length t) 1024 (omega arith))))
       (rw (eq-eqb (validPrefix t) (length t) whole))
 
   pub fresh : checkField kind t ≡ lastStep kind t orAccept 1
@@ -191,11 +191,6 @@ hold-iban kind s e = rw (eq-eqb kind 1 e)
 pub hold-lei : (kind : ℕ) (s : List ℕ) (x : Step) → (kind ≡ 1 → ⊥) → x ≡ leiCharacters s → heldBy x s ≡ heldBy (characters kind s) (heldText kind s)
 unfolding characters heldText
 hold-lei kind s x n e = rw (ne-eqb kind 1 n, e)
-
-pub held-step : (x : Step) (t : List ℕ) → heldBy x t .step ≡ x
-unfolding heldBy
-held-step Pass t = refl
-held-step (Stop r k) t = refl
 
 -- what a load that was not refused took
 module _ (kind : ℕ) (s : List ℕ) (k : T (sheetKind kind)) (e : summed (checkField kind s) ≡ true) where

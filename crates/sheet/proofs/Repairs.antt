@@ -16,7 +16,7 @@ use Rattle.answer.specs.declared.Reason.{Reason}
 use Rattle.answer.specs.declared.Reason.the-variants.{NoSheet, NoPlace, Unfit}
 use Rattle.answer.specs.declared.Step.{Step}
 use Rattle.answer.specs.declared.Step.the-variants.{Pass, Stop}
-use Rattle.answer.proofs.Laws.{passes, regroup}
+use Rattle.answer.proofs.Laws.{passes, both-pass, test-held, regroup}
 use Rattle.text.specs.Class.{allowed}
 use Rattle.text.specs.declared.Set.the-variants.{Digits, LettersDigits}
 use Rattle.text.proofs.Ranges.{is-true}
@@ -26,20 +26,21 @@ use Rattle.checkdigit.proofs.Fill.{tens-digit, ones-digit}
 use Rattle.iban.specs.Held.{padded, heldBy}
 use Rattle.iban.specs.declared.Held.{Held}
 use Rattle.iban.proofs.Holding.{length-padded, padded-front}
+use Rattle.iban.proofs.Verdict.{held-step}
 use Rattle.field.specs.Field.{checkField}
 use Rattle.sheet.specs.Sheets.{Plain, Written, heldText, characters, remainderBy, sheetOf, held}
 use Rattle.sheet.specs.Load.{refusal, writtenOf, standing}
 use Rattle.sheet.specs.Repairs.{digitsPlace, filled, asked, placeStep, byteStep, textStep, unfit, requestSteps, sheetStep, repairBy, repairOf}
 use Rattle.sheet.specs.Repairs.Request.{Replace, Exchange, Fill}
 use Rattle.sheet.specs.declared.Sheet.{Sheet}
-use Rattle.sheet.proofs.Fits.{Fit, setAt, by-kind, must-passed, both-passed, fit-plain, fit-few, fit-digit, fit-passes, plain-fit}
-use Rattle.sheet.proofs.Loads.{fresh-value, held-step}
+use Rattle.sheet.proofs.Fits.{Fit, setAt, by-kind, fit-plain, fit-few, fit-digit, fit-passes, plain-fit}
+use Rattle.sheet.proofs.Loads.{fresh-value}
 use Rattle.sheet.proofs.Sheets.{Stood, stood, stands, stood-size, stood-text, stood-few, padded-set, padded-get}
 
 -- what each step has shown where it passed
 pub sheet-passed : (s : Sheet) → sheetStep s ≡ Pass → Stood s
 unfolding sheetStep
-sheet-passed s e = stood s (is-true (standing s) (must-passed (standing s) NoSheet 20 e))
+sheet-passed s e = stood s (is-true (standing s) (test-held (standing s) NoSheet 20 e))
 
 pub sheet-passes : (s : Sheet) → Stood s → sheetStep s ≡ Pass
 unfolding sheetStep
@@ -47,11 +48,11 @@ sheet-passes s o = rw (stands s o)
 
 pub place-passed : (n p : ℕ) → placeStep n p ≡ Pass → p < n
 unfolding placeStep
-place-passed n p e = ltb→lt p n (must-passed (ltb p n) (NoPlace p) 21 e)
+place-passed n p e = ltb→lt p n (test-held (ltb p n) (NoPlace p) 21 e)
 
 pub byte-passed : (p b : ℕ) → byteStep p b ≡ Pass → T (allowed LettersDigits b)
 unfolding byteStep
-byte-passed p b e = must-passed (allowed LettersDigits b) (Unfit p) 22 e
+byte-passed p b e = test-held (allowed LettersDigits b) (Unfit p) 22 e
 
 unfit-passed : (x : Step) → unfit x ≡ Pass → x ≡ Pass
 unfit-passed Pass e = refl
@@ -149,8 +150,8 @@ module _ (s : Sheet) (place byte : ℕ) where
   pub replaces : replaceSteps ≡ Pass → Replaces
   unfolding repairOf requestSteps asked
   replaces e =
-      let p = both-passed (sheetStep s andThen placeStep (s .length) place) (byteStep place byte) e in
-      let q = both-passed (sheetStep s) (placeStep (s .length) place) (p .0) in
+      let p = both-pass (sheetStep s andThen placeStep (s .length) place) (byteStep place byte) e in
+      let q = both-pass (sheetStep s) (placeStep (s .length) place) (p .0) in
       let o = sheet-passed s (q .0) in
       let h : place < s .length = place-passed (s .length) place (q .1) in
       let l = stood-few s o in
@@ -187,8 +188,8 @@ module _ (s : Sheet) (i j : ℕ) where
   pub exchanges : exchangeSteps ≡ Pass → Exchanges
   unfolding repairOf requestSteps asked
   exchanges e =
-      let p = both-passed (sheetStep s andThen placeStep (s .length) i) (placeStep (s .length) j) e in
-      let q = both-passed (sheetStep s) (placeStep (s .length) i) (p .0) in
+      let p = both-pass (sheetStep s andThen placeStep (s .length) i) (placeStep (s .length) j) e in
+      let q = both-pass (sheetStep s) (placeStep (s .length) i) (p .0) in
       let o = sheet-passed s (q .0) in
       let l = stood-few s o in
       let hi : i < s .length = place-passed (s .length) i (q .1) in
