@@ -2,7 +2,7 @@
 -- Assumes nothing.
 use Prim.Native.Nat.{ℕ, _+_, _/_, _%_, _≤_, _<_}
 use mathlib.Core.Path.{_≡_, refl, sym, _∙_, ap}
-use mathlib.Core.Bool.{true, false}
+use mathlib.Core.Bool.{Bool, true, false}
 use mathlib.Core.List.{List, [], _∷_}
 use mathlib.Core.Logic.{_≢_}
 use native.Mathlib.Omega.{arith}
@@ -10,13 +10,15 @@ use borrow.Author.Tests.{lt-ltb}
 use lib.Dec.{T}
 use lib.ListN.{length, set, getD, length-set}
 use lib.Seq.{getD-set-other, set-getD}
+use Rattle.answer.specs.Choice.{pick}
 use Rattle.answer.specs.Steps.{_andThen_}
 use Rattle.answer.specs.Table.{numberOf, valueOf}
 use Rattle.answer.specs.declared.Answer.the-variants.{Accepted}
 use Rattle.answer.specs.declared.Reason.{Reason}
-use Rattle.answer.specs.declared.Reason.the-variants.{NoSheet}
+use Rattle.answer.specs.declared.Reason.the-variants.{UnknownKind, NoSheet}
 use Rattle.answer.specs.declared.Step.{Step}
 use Rattle.answer.specs.declared.Step.the-variants.{Pass, Stop}
+use Rattle.answer.proofs.Laws.{both-pass}
 use Rattle.text.proofs.Ranges.{is-true, is-false}
 use Rattle.checkdigit.specs.Letter.{Slip}
 use Rattle.checkdigit.specs.Sum.{exchanged}
@@ -31,9 +33,9 @@ use Rattle.sheet.specs.Calls.{callsAfter, Told, freshly, toldBy, textsAf
 use Rattle.sheet.specs.declared.Sheet.{Sheet}
 use Rattle.sheet.specs.declared.Repaired.{Repaired}
 use Rattle.sheet.proofs.Fits.{Fit, fit-few}
-use Rattle.sheet.proofs.Loads.{took, load-fit, summed-passes, passes-summed, fresh-value}
+use Rattle.sheet.proofs.Loads.{took, load-fit, summed-passes, passes-summed, fresh-value, fresh-summed}
 use Rattle.sheet.proofs.Sheets.{Stood, stood, stands, empty-falls, by-own, stood-size, sheet-stood, same-sheet, sheet-same}
-use Rattle.sheet.proofs.Repairs.{fit-filled, text-passes}
+use Rattle.sheet.proofs.Repairs.{fit-filled, text-passes, sheet-passed}
 use Rattle.sheet.proofs.Calls.{asked-fit, by-request, call-is, told-fit, not-twenty, accepted-one, one-accepted, slipped, traded, filled-remainder}
 
 -- A load answers 0 or 5 exactly where the field is admitted and passes every step of its rule but the remainder.
@@ -186,6 +188,34 @@ repaired-stands s q e = rw (by-request s q (stood s e)) (go (requestSteps (s .ki
 pub refused-keeps : (s : Sheet) (q : Request) (r : Reason) (k : ℕ) → sheetStep s andThen requestSteps (s .kind) (held s) q ≡ Stop r k → repairOf s q ≡ refusal s r k
 unfolding repairOf repairBy
 refused-keeps s q r k e = rw e
+
+-- A load or a repair that answers other than 0 and 5 returns the sheet that went in.
+pub load-keeps : (kind : ℕ) (s : List ℕ) (old : Sheet) → summed (loadOf kind s old .answer) ≡ false → loadOf kind s old .sheet ≡ old
+unfolding loadOf
+load-keeps kind s old = go (sheetKind kind) (summed (checkField kind s)) refl
+  where
+    taken : Bool → Bool → Repaired
+    taken k b = pick k (record { answer = checkField kind s; sheet = pick b (sheetOf kind (heldText kind s)) old }) (refusal old (UnknownKind kind) 24)
+
+    go : (k b : Bool) → summed (checkField kind s) ≡ b → summed (taken k b .answer) ≡ false → taken k b .sheet ≡ old
+    go false b e f = refl
+    go true false e f = refl
+    go true true e f = let z : _≡_ {A = ℕ} 0 1 = cc in absurd (omega arith)
+
+pub repair-keeps : (s : Sheet) (q : Request) → summed (repairOf s q .answer) ≡ false → repairOf s q .sheet ≡ s
+unfolding repairOf repairBy
+repair-keeps s q = go (sheetStep s andThen requestSteps (s .kind) (held s) q) refl
+  where
+    new : List ℕ
+    new = asked (s .kind) (held s) q
+
+    go : (x : Step) → sheetStep s andThen requestSteps (s .kind) (held s) q ≡ x → summed (repairBy x s new .answer) ≡ false → repairBy x s new .sheet ≡ s
+    go Pass e f =
+        let p = both-pass (sheetStep s) (requestSteps (s .kind) (held s) q) e in
+        let o = sheet-passed s (p .0) in
+        let z : _≡_ {A = ℕ} 0 1 = cc (fresh-summed (s .kind) new (asked-fit (s .kind) (held s) q (o .fit) (p .1))) in
+        absurd (omega arith)
+    go (Stop r k) e f = refl
 
 -- An exchange of a place with itself changes nothing and answers as a fresh check.
 pub exchange-self : (s : Sheet) (i : ℕ) → standing s ≡ true → i < s .length → repairOf s (Exchange i i) ≡ record { answer = checkField (s .kind) (held s); sheet = s }

@@ -15,12 +15,12 @@ use Rattle.sheet.specs.Calls.{callsAfter}
 use Rattle.sheet.specs.declared.Sheet.{Sheet}
 use Rattle.sheet.specs.declared.Repaired.{Repaired}
 use Rattle.sheet.proofs.Sheets.{stood}
-use Rattle.sheet.proofs.Promises.{loaded-stands, repaired-stands}
+use Rattle.sheet.proofs.Promises.{load-keeps, repair-keeps, loaded-stands, repaired-stands}
 use Rattle.stitchbarrow.specs.Sheets.{sheetSize, sheetAt, sheetBytes}
 use Rattle.stitchbarrow.specs.Reply.{sheetReply}
 use Rattle.stitchbarrow.specs.Calls.{repliesAfter}
 use Rattle.stitchbarrow.proofs.Sheets.{sheet-back, lent-back}
-use Rattle.stitchbarrow.proofs.Replies.{load-keeps, repair-keeps, refused-kept, next-call}
+use Rattle.stitchbarrow.proofs.Replies.{refused-kept, next-call}
 
 -- The sheet that any 46 bytes write has these bytes: what was not changed comes back as lent.
 pub as-lent : (b : List ℕ) → Bytes b → sheetSize ≤ length b → sheetBytes (sheetAt b) ++ drop sheetSize b ≡ b

@@ -11,25 +11,14 @@ use lib.Dec.{ltb}
 use lib.ListN.{length, drop, length-append, length-drop}
 use lib.Seq.{drop-at}
 use Rattle.answer.specs.Choice.{either, pick}
-use Rattle.answer.specs.Steps.{_andThen_}
 use Rattle.answer.specs.Table.{numberOf}
 use Rattle.answer.specs.declared.Answer.{Answer}
-use Rattle.answer.specs.declared.Reason.the-variants.{UnknownKind}
-use Rattle.answer.specs.declared.Step.{Step}
-use Rattle.answer.specs.declared.Step.the-variants.{Pass, Stop}
-use Rattle.field.specs.Field.{checkField}
 use Rattle.batch.specs.Number.{Bytes}
 use Rattle.batch.specs.Verdict.{answerBytes}
-use Rattle.sheet.specs.Sheets.{sheetKind, heldText, sheetOf, held}
-use Rattle.sheet.specs.Load.{refusal, summed, loadOf}
-use Rattle.sheet.specs.Repairs.{Request, asked, requestSteps, sheetStep, repairBy, repairOf}
+use Rattle.sheet.specs.Load.{summed}
 use Rattle.sheet.specs.declared.Sheet.{Sheet}
 use Rattle.sheet.specs.declared.Repaired.{Repaired}
-use Rattle.sheet.proofs.Fits.{both-passed}
-use Rattle.sheet.proofs.Loads.{fresh-summed}
 use Rattle.sheet.proofs.Sheets.{Stood}
-use Rattle.sheet.proofs.Repairs.{sheet-passed}
-use Rattle.sheet.proofs.Calls.{asked-fit}
 use Rattle.stitchbarrow.specs.Sheets.{sheetSize, sheetAt, sheetBytes}
 use Rattle.stitchbarrow.specs.Reply.{answerSize, SheetReply, handed, tooShort, sheetReply}
 use Rattle.stitchbarrow.proofs.Sheets.{sheet-back, sheet-long, lent-back}
@@ -66,39 +55,11 @@ leaves r sheet answer P short long = go (tooShort (length sheet) (length answer)
     go true e = short e
     go false e = long (long-enough (length sheet) (length answer) false (sym e) refl)
 
--- a load or a repair that answers other than 0 and 5 returns the sheet that went in
-pub load-keeps : (kind : ℕ) (s : List ℕ) (old : Sheet) → summed (loadOf kind s old .answer) ≡ false → loadOf kind s old .sheet ≡ old
-unfolding loadOf
-load-keeps kind s old = go (sheetKind kind) (summed (checkField kind s)) refl
-  where
-    taken : Bool → Bool → Repaired
-    taken k b = pick k (record { answer = checkField kind s; sheet = pick b (sheetOf kind (heldText kind s)) old }) (refusal old (UnknownKind kind) 24)
-
-    go : (k b : Bool) → summed (checkField kind s) ≡ b → summed (taken k b .answer) ≡ false → taken k b .sheet ≡ old
-    go false b e f = refl
-    go true false e f = refl
-    go true true e f = let z : _≡_ {A = ℕ} 0 1 = cc in absurd (omega arith)
-
-pub repair-keeps : (s : Sheet) (q : Request) → summed (repairOf s q .answer) ≡ false → repairOf s q .sheet ≡ s
-unfolding repairOf repairBy
-repair-keeps s q = go (sheetStep s andThen requestSteps (s .kind) (held s) q) refl
-  where
-    new : List ℕ
-    new = asked (s .kind) (held s) q
-
-    go : (x : Step) → sheetStep s andThen requestSteps (s .kind) (held s) q ≡ x → summed (repairBy x s new .answer) ≡ false → repairBy x s new .sheet ≡ s
-    go Pass e f =
-        let p = both-passed (sheetStep s) (requestSteps (s .kind) (held s) q) e in
-        let o = sheet-passed s (p .0) in
-        let z : _≡_ {A = ℕ} 0 1 = cc (fresh-summed (s .kind) new (asked-fit (s .kind) (held s) q (o .fit) (p .1))) in
-        absurd (omega arith)
-    go (Stop r k) e f = refl
-
 not-summed : (a : Answer) → numberOf a ≢ 0 → numberOf a ≢ 5 → summed a ≡ false
 unfolding summed
 not-summed a m n = rw (ne-eqb (numberOf a) 0 m, ne-eqb (numberOf a) 5 n)
 
--- .. and so its bytes
+-- where an answer other than 0 and 5 leaves the sheet, it leaves its bytes
 pub refused-kept : (r : Repaired) (sheet answer : List ℕ) → Bytes sheet → (summed (r .answer) ≡ false → r .sheet ≡ sheetAt sheet)
     → sheetReply r sheet answer .code ≢ 0 → sheetReply r sheet answer .code ≢ 5 → sheetReply r sheet answer .sheet ≡ sheet
 unfolding handed
