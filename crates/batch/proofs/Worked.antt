@@ -9,6 +9,7 @@ use Rattle.text.specs.Class.{classOf}
 use Rattle.text.specs.Decimal.{decimal, numberOf}
 use Rattle.text.specs.Field.{present, firstPlace, lengthIs, wrongFrom, firstWrong}
 use Rattle.text.specs.Quote.{bytesOf}
+use Rattle.text.specs.Same.{sameText}
 use Rattle.utf8.specs.Rfc3629.{leadOf, needed, wellFormed, scalarOf, charOf, front}
 use Rattle.utf8.specs.Chars.{charsPast, widths, validPrefix}
 use Rattle.codes.specs.Codes.{onList, wellSpelt, codeRule}
@@ -64,5 +65,5 @@ table =
     ∷ []
 
 pub worked : map (λ c. callOf (c .batch) (c .offset) (replicate (c .room) 9) (c .budget)) table ≡ map (λ c. c .says) table
-unfolding present classOf decimal numberOf firstPlace lengthIs wrongFrom firstWrong leadOf needed wellFormed scalarOf charOf front charsPast widths validPrefix onList wellSpelt codeRule countries countryAnswer cents.parsed cents.below64 cents.digitsAt cents.numberAt cents.digits cents.whole cents.wholeNumber cents.past cents.fraction cents.worth cents.cents cents.parts cents.parseAmountCents admission ruleOf checkField _andThen_ _orAccept_ headOf answerBytes verdict verdictOf nextOf walk callOf
+unfolding present classOf decimal numberOf firstPlace lengthIs wrongFrom firstWrong leadOf needed wellFormed scalarOf charOf front charsPast widths validPrefix onList sameText wellSpelt codeRule countries countryAnswer cents.parsed cents.below64 cents.digitsAt cents.numberAt cents.digits cents.whole cents.wholeNumber cents.past cents.fraction cents.worth cents.cents cents.parts cents.parseAmountCents admission ruleOf checkField _andThen_ _orAccept_ headOf answerBytes verdict verdictOf nextOf walk callOf
 worked = refl

@@ -19,10 +19,12 @@ use Rattle.answer.specs.declared.Reason.the-variants.{NotListed}
 use Rattle.answer.specs.declared.Step.{Step}
 use Rattle.answer.specs.declared.Step.the-variants.{Pass, Stop}
 use Rattle.answer.proofs.Laws.{stops, passes, both-pass, accepted-pass}
+use Rattle.text.specs.Same.{sameText}
 use Rattle.text.specs.declared.Set.the-variants.{Capitals}
-use Rattle.text.proofs.Ranges.{both-parts, both-of, every}
+use Rattle.text.proofs.Ranges.{is-true, both-parts, both-of, every}
 use Rattle.text.proofs.Low.{Low, low-part, low-first, length-held}
-use Rattle.codes.specs.Codes.{any, same, onList, wellSpelt, codeRule, packedOn, packed, among}
+use Rattle.text.proofs.Same.{same-text}
+use Rattle.codes.specs.Codes.{any, onList, wellSpelt, codeRule, packedOn, packed, among}
 
 -- a search of a table, from a place on
 module _ (code : ℕ) (table : List ℕ) (i : ℕ) where
@@ -50,18 +52,9 @@ equal-tests true false f g = absurd (f tt)
 equal-tests false true f g = absurd (g tt)
 equal-tests false false f g = refl
 
-same-is : (s t : List ℕ) → T (same s t) → s ≡ t
-same-is [] [] u = refl
-same-is [] (b ∷ t) u = absurd u
-same-is (a ∷ s) [] u = absurd u
-same-is (a ∷ s) (b ∷ t) u =
-    let p = both-parts (eqb a b) (same s t) u in
-    let h = eqb→eq a b (p .0) in
-    let k = same-is s t (p .1) in
-    cc
-
 -- a number is packed of one row of bytes only, of a given length
-packed-once : (n m : ℕ) (s t : List ℕ) → T (bytes s) → T (bytes t) → length s ≡ length t → packedOn n s ≡ packedOn m t → (n ≡ m) × T (same s t)
+packed-once : (n m : ℕ) (s t : List ℕ) → T (bytes s) → T (bytes t) → length s ≡ length t → packedOn n s ≡ packedOn m t → (n ≡ m) × T (sameText s t)
+unfolding sameText
 packed-once n m [] [] p q l e = (e, tt)
 packed-once n m [] (b ∷ t) p q l e = absurd (omega arith)
 packed-once n m (a ∷ s) [] p q l e = absurd (omega arith)
@@ -72,17 +65,17 @@ packed-once n m (a ∷ s) (b ∷ t) p q l e =
     let h = ltb→lt a 256 (u .0) in
     let k = ltb→lt b 256 (v .0) in
     let f : a ≡ b = omega arith in
-    (omega arith, both-of (eqb a b) (same s t) (rw f (eqb-refl b)) (r .1))
+    (omega arith, both-of (eqb a b) (sameText s t) (rw f (eqb-refl b)) (r .1))
 
-number-tells : (s w : List ℕ) → T (bytes s) → T (bytes w) → length s ≡ length w → eqb (packed w) (packed s) ≡ same s w
+number-tells : (s w : List ℕ) → T (bytes s) → T (bytes w) → length s ≡ length w → eqb (packed w) (packed s) ≡ sameText s w
 number-tells s w p q l =
-    equal-tests (eqb (packed w) (packed s)) (same s w)
+    equal-tests (eqb (packed w) (packed s)) (sameText s w)
     (λ u. packed-once 0 0 s w p q l (sym (eqb→eq (packed w) (packed s) u)) .1)
-    (λ u. rw (same-is s w u) (eqb-refl (packed w)))
+    (λ u. rw (same-text s w (is-true (sameText s w) u)) (eqb-refl (packed w)))
 
 -- a code's number stands in the packed list just where the code stands on the list
 packed-among : (n : ℕ) (s : List ℕ) (codes : List (List ℕ)) → length s ≡ n → T (bytes s) → T (fit n codes)
-    → among (map packed codes) (packed s) ≡ any (same s) codes
+    → among (map packed codes) (packed s) ≡ any (sameText s) codes
 packed-among n s [] l p t = refl
 packed-among n s (w ∷ codes) l p t =
     let u = both-parts (both (eqb (length w) n) (bytes w)) (fit n codes) t in

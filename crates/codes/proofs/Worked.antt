@@ -9,6 +9,7 @@ use Rattle.answer.specs.declared.Reason.the-variants.{Length, Wrong, NotListed,
 use Rattle.text.specs.Class.{classOf}
 use Rattle.text.specs.Field.{present, lengthIs, wrongFrom, firstWrong}
 use Rattle.text.specs.Quote.{bytesOf}
+use Rattle.text.specs.Same.{sameText}
 use Rattle.codes.specs.Codes.{codesOf, onList, wellSpelt, codeRule, packed}
 
 abbrev three : List (List ℕ)
@@ -26,5 +27,5 @@ pub worked : (three ≡ bytesOf "AB" ∷ bytesOf "CD" ∷ bytesOf "EF" ∷ [])
     ∷ Refused (Wrong 1) 903
     ∷ Refused (Wrong 0) 904
     ∷ [])
-unfolding codeRule wellSpelt present onList lengthIs firstWrong wrongFrom classOf _andThen_ _orAccept_
+unfolding codeRule wellSpelt present onList sameText lengthIs firstWrong wrongFrom classOf _andThen_ _orAccept_
 worked = (refl, refl, refl)

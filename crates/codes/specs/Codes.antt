@@ -7,13 +7,14 @@ use mathlib.Core.Bool.{Bool, true, false}
 use mathlib.Core.List.{List, [], _∷_, _++_}
 use lib.Dec.{eqb, ltb}
 use lib.ListN.{length}
-use Rattle.answer.specs.Choice.{both, either, pick}
+use Rattle.answer.specs.Choice.{either, pick}
 use Rattle.answer.specs.Steps.{must, _andThen_, _orAccept_}
 use Rattle.answer.specs.declared.Answer.{Answer}
 use Rattle.answer.specs.declared.Reason.the-variants.{Missing, NotListed}
 use Rattle.answer.specs.declared.Step.{Step}
 use Rattle.text.specs.Field.{lengthIs, present, firstWrong}
 use Rattle.text.specs.Quote.{bytesOf}
+use Rattle.text.specs.Same.{sameText}
 use Rattle.text.specs.declared.Set.the-variants.{Letters, Capitals}
 
 -- the words of a line, a blank between two; w is what has been read of the first
@@ -31,16 +32,9 @@ abbrev pub any : {A : Type 0} → (A → Bool) → List A → Bool
 any f [] = false
 any f (x ∷ xs) = either (f x) (any f xs)
 
--- the same text, byte for byte
-abbrev pub same : List ℕ → List ℕ → Bool
-same [] [] = true
-same [] (b ∷ t) = false
-same (a ∷ s) [] = false
-same (a ∷ s) (b ∷ t) = both (eqb a b) (same s t)
-
 -- in each step, k is its check number
 unfoldable pub onList : List (List ℕ) → List ℕ → ℕ → Step
-onList codes s k = must (any (same s) codes) NotListed k
+onList codes s k = must (any (sameText s) codes) NotListed k
 
 -- the steps before the list; the check numbers of a kind's steps count on from 100 times the kind
 unfoldable pub wellSpelt : ℕ → ℕ → List ℕ → Step

@@ -8,6 +8,7 @@ use Rattle.answer.specs.declared.Reason.the-variants.{Length, Wrong, NotListed,
 use Rattle.text.specs.Class.{classOf}
 use Rattle.text.specs.Field.{present, lengthIs, wrongFrom, firstWrong}
 use Rattle.text.specs.Quote.{bytesOf}
+use Rattle.text.specs.Same.{sameText}
 use Rattle.codes.specs.Codes.{onList, wellSpelt, codeRule}
 use Rattle.country.specs.Country.{countries, countryAnswer}
 
@@ -21,5 +22,5 @@ pub worked : map (λ t. countryAnswer (bytesOf t)) ("GB" ∷ "XK" ∷ "XX" ∷ "
     ∷ Refused (Missing 0) 701
     ∷ Refused (Length 0 3) 702
     ∷ []
-unfolding countryAnswer countries codeRule wellSpelt present onList lengthIs firstWrong wrongFrom classOf _andThen_ _orAccept_
+unfolding countryAnswer countries codeRule wellSpelt present onList sameText lengthIs firstWrong wrongFrom classOf _andThen_ _orAccept_
 worked = refl

@@ -8,6 +8,7 @@ use Rattle.answer.specs.declared.Reason.the-variants.{Length, Wrong, NotListed,
 use Rattle.text.specs.Class.{classOf}
 use Rattle.text.specs.Field.{present, lengthIs, wrongFrom, firstWrong}
 use Rattle.text.specs.Quote.{bytesOf}
+use Rattle.text.specs.Same.{sameText}
 use Rattle.codes.specs.Codes.{onList, wellSpelt, codeRule}
 use Rattle.currency.specs.Currency.{currencies, currencyAnswer}
 
@@ -22,5 +23,5 @@ pub worked : map (λ t. currencyAnswer (bytesOf t)) ("USD" ∷ "HRK" ∷ "BIF" �
     ∷ Refused (Missing 0) 801
     ∷ Refused (Length 0 2) 802
     ∷ []
-unfolding currencyAnswer currencies codeRule wellSpelt present onList lengthIs firstWrong wrongFrom classOf _andThen_ _orAccept_
+unfolding currencyAnswer currencies codeRule wellSpelt present onList sameText lengthIs firstWrong wrongFrom classOf _andThen_ _orAccept_
 worked = refl

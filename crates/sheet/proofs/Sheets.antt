@@ -11,11 +11,13 @@ use lib.Dec.{T, eqb}
 use lib.ListN.{length, take, drop, getD, set, drop-of-length-le}
 use lib.Seq.{drop-cons, take-length}
 use Rattle.answer.specs.Choice.{both, pick}
+use Rattle.text.specs.Same.{sameText}
 use Rattle.text.proofs.Ranges.{is-true, is-false, within-ends}
+use Rattle.text.proofs.Same.{same-text, text-same}
 use Rattle.iban.specs.Held.{padded}
 use Rattle.iban.proofs.Holding.{padded-front}
 use Rattle.field.specs.Field.{checkField}
-use Rattle.sheet.specs.Sheets.{sheetKind, heldText, sheetOf, emptySheet, held, sameText, sameSheet}
+use Rattle.sheet.specs.Sheets.{sheetKind, heldText, sheetOf, emptySheet, held, sameSheet}
 use Rattle.sheet.specs.Load.{summed, loadOf, standing}
 use Rattle.sheet.specs.declared.Sheet.{Sheet}
 use Rattle.sheet.specs.declared.Repaired.{Repaired}
@@ -25,35 +27,6 @@ use Rattle.sheet.proofs.Loads.{load-other, load-refused, load-taken, ta
 both-true : (a b : Bool) → both a b ≡ true → (a ≡ true) × (b ≡ true)
 both-true true b e = (refl, e)
 both-true false b e = let z : _≡_ {A = ℕ} 0 1 = cc in absurd (omega arith)
-
--- the comparison
-pub same-text : (t u : List ℕ) → sameText t u ≡ true → t ≡ u
-unfolding sameText
-same-text [] [] e = refl
-same-text [] (b ∷ u) e = let z : _≡_ {A = ℕ} 0 1 = cc in absurd (omega arith)
-same-text (a ∷ t) [] e = let z : _≡_ {A = ℕ} 0 1 = cc in absurd (omega arith)
-same-text (a ∷ t) (b ∷ u) e =
-    let p = both-true (eqb a b) (sameText t u) e in
-    rw (eqb-true a b (p .0), same-text t u (p .1))
-
-text-same : (t : List ℕ) → sameText t t ≡ true
-unfolding sameText
-text-same [] = refl
-text-same (a ∷ t) = rw (eq-eqb a a refl) (text-same t)
-
--- from a place on
-module _ (t u : List ℕ) (i : ℕ) where
-  pub same-more : i < length t → i < length u → getD t i 0 ≡ getD u i 0 → sameText (drop i t) (drop i u) ≡ sameText (drop (i + 1) t) (drop (i + 1) u)
-  unfolding sameText
-  same-more h k e = rw (drop-cons t i 0 h, drop-cons u i 0 k, eq-eqb (getD t i 0) (getD u i 0) e, add-one i)
-
-  pub same-not : i < length t → i < length u → (getD t i 0 ≡ getD u i 0 → ⊥) → sameText (drop i t) (drop i u) ≡ false
-  unfolding sameText
-  same-not h k e = rw (drop-cons t i 0 h, drop-cons u i 0 k, ne-eqb (getD t i 0) (getD u i 0) e)
-
-  pub same-end : length t ≤ i → length u ≤ i → sameText (drop i t) (drop i u) ≡ true
-  unfolding sameText
-  same-end h k = rw (drop-of-length-le t h, drop-of-length-le u k)
 
 pub same-sheet : (a b : Sheet) → sameSheet a b ≡ true → a ≡ b
 unfolding sameSheet

@@ -12,6 +12,7 @@ use Rattle.text.specs.Class.{classOf}
 use Rattle.text.specs.Decimal.{decimal, numberOf}
 use Rattle.text.specs.Field.{lengthIs, wrongFrom, firstWrong}
 use Rattle.text.specs.Quote.{bytesOf}
+use Rattle.text.specs.Same.{sameText}
 use Rattle.utf8.specs.Rfc3629.{leadOf, needed, wellFormed, scalarOf, charOf, front}
 use Rattle.utf8.specs.Chars.{charsPast, widths, validPrefix}
 use Rattle.utf8.specs.Space.{whiteSpace}
@@ -23,7 +24,7 @@ use Rattle.iban.specs.Iban.{each, countStep, classSteps, ibanCharacters, ibanAn
 use Rattle.iban.specs.Held.{padded}
 use Rattle.lei.specs.Lei.{leiCharacters, leiAnswer}
 use Rattle.field.specs.Field.{admission, ruleOf, checkField}
-use Rattle.sheet.specs.Sheets.{heldText, characters, remainderBy, sheetOf, emptySheet, held, sameText, sameSheet}
+use Rattle.sheet.specs.Sheets.{heldText, characters, remainderBy, sheetOf, emptySheet, held, sameSheet}
 use Rattle.sheet.specs.Load.{summed, loadOf, standing}
 use Rattle.sheet.specs.Repairs.{Request, filled, asked, placeStep, byteStep, textStep, requestSteps, sheetStep, repairBy, repairOf}
 use Rattle.sheet.specs.Repairs.Request.{Replace, Exchange, Fill}

@@ -10,6 +10,7 @@ use lib.ListN.{length, take, getD}
 use Rattle.answer.specs.Choice.{both, pick}
 use Rattle.answer.specs.declared.Step.{Step}
 use Rattle.text.specs.Ranges.{within}
+use Rattle.text.specs.Same.{sameText}
 use Rattle.text.specs.Class.{allowed}
 use Rattle.text.specs.declared.Set.the-variants.{LettersDigits}
 use Rattle.checkdigit.specs.Sum.{remainderOf, ibanRemainder}
@@ -47,12 +48,6 @@ abbrev pub held : Sheet → List ℕ
 held s = take (s .length) (s .text)
 
 -- two sheets are equal in all four parts
-unfoldable pub sameText : List ℕ → List ℕ → Bool
-sameText [] [] = true
-sameText [] (b ∷ u) = false
-sameText (a ∷ t) [] = false
-sameText (a ∷ t) (b ∷ u) = both (eqb a b) (sameText t u)
-
 unfoldable pub sameSheet : Sheet → Sheet → Bool
 sameSheet a b =
     both (eqb (a .kind) (b .kind))

@@ -4,6 +4,7 @@ ghost use mathlib.Core.List.{[]};
 ghost use Prim.Native.Nat.{_<_, _≤_};
 ghost use lib.ListN.{length, take, set};
 ghost use Rattle.answer.specs.declared.Reason.{Reason};
+ghost use Rattle.text.specs.Same.{sameText};
 ghost use Rattle.checkdigit.specs.Sum.{exchanged};
 ghost use Rattle.checkdigit.specs.Fill.{stamped};
 ghost use Rattle.iban.specs.Held.{padded, heldBy};
@@ -12,7 +13,6 @@ ghost use Rattle.sheet.specs.Sheets.{
   characters,
   remainderBy,
   emptySheet,
-  sameText,
   sameSheet,
   Written,
 };

@@ -5,4 +5,5 @@ pub mod Decimals
 pub mod Fields
 pub mod Low
 pub mod Near
+pub mod Same
 pub mod Worked

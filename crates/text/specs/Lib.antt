@@ -4,3 +4,4 @@ pub mod Class
 pub mod Decimal
 pub mod Field
 pub mod Quote
+pub mod Same

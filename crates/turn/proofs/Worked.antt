@@ -9,6 +9,7 @@ use Rattle.text.specs.Class.{classOf}
 use Rattle.text.specs.Decimal.{decimal, numberOf}
 use Rattle.text.specs.Field.{present, firstPlace, lengthIs, wrongFrom, firstWrong}
 use Rattle.text.specs.Quote.{bytesOf}
+use Rattle.text.specs.Same.{sameText}
 use Rattle.utf8.specs.Rfc3629.{leadOf, needed, wellFormed, scalarOf, charOf, front}
 use Rattle.utf8.specs.Chars.{charsPast, widths, validPrefix}
 use Rattle.codes.specs.Codes.{onList, wellSpelt, codeRule}
@@ -32,5 +33,5 @@ pub worked : map (λ (b : List ℕ). outputOf b 0) inputs
     ∷ bytesOf "offset kind answer place number\n0 7 0 0 0\nstop 33 judged 1 read 6\n"
     ∷ bytesOf "offset kind answer place number\n0 7 0 0 0\n6 9 0 0 100050\nstop 35 judged 2 read 17\n"
     ∷ []
-unfolding present classOf decimal numberOf firstPlace lengthIs wrongFrom firstWrong leadOf needed wellFormed scalarOf charOf front charsPast widths validPrefix onList wellSpelt codeRule countries countryAnswer cents.parsed cents.below64 cents.digitsAt cents.numberAt cents.digits cents.whole cents.wholeNumber cents.past cents.fraction cents.worth cents.cents cents.parts cents.parseAmountCents admission ruleOf checkField _andThen_ _orAccept_ headOf answerBytes verdict recordsPast sizes verdictOf verdictsOf digitsIn digitsOf field row line text heading named lastLine outputOf
+unfolding present classOf decimal numberOf firstPlace lengthIs wrongFrom firstWrong leadOf needed wellFormed scalarOf charOf front charsPast widths validPrefix onList sameText wellSpelt codeRule countries countryAnswer cents.parsed cents.below64 cents.digitsAt cents.numberAt cents.digits cents.whole cents.wholeNumber cents.past cents.fraction cents.worth cents.cents cents.parts cents.parseAmountCents admission ruleOf checkField _andThen_ _orAccept_ headOf answerBytes verdict recordsPast sizes verdictOf verdictsOf digitsIn digitsOf field row line text heading named lastLine outputOf
 worked = refl

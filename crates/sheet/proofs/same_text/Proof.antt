@@ -4,8 +4,8 @@ use Prim.Native.Nat.{_-_}
 use mathlib.Core.Path.{_≡_, refl, sym, _∙_}
 use native.Mathlib.Omega.{arith}
 use lib.ListN.{drop}
-use Rattle.sheet.specs.Sheets.{sameText}
-use Rattle.sheet.proofs.Sheets.{same-more, same-not, same-end}
+use Rattle.text.specs.Same.{sameText}
+use Rattle.text.proofs.Same.{same-more, same-not, same-end}
 use Rattle.sheet.proofs.same_text.Statement.{statement}
 use Rattle.sheet.proofs.same_text.Tie as tie
 
