@@ -7,8 +7,8 @@ use mathlib.Core.List.{List, [], _∷_}
 use native.Mathlib.Omega.{arith}
 use borrow.Author.Tests.{lt-ltb, le-ltb, eq-eqb, ne-eqb}
 use lib.Dec.{eqb, ltb}
-use lib.ListN.{length, getD, drop, length-drop}
-use lib.Seq.{getD-drop}
+use lib.ListN.{length, getD, take, drop, length-drop}
+use lib.Seq.{getD-drop, take-take}
 use Rattle.answer.specs.Choice.{both, pick}
 use Rattle.answer.specs.Steps.{_andThen_, _orAccept_}
 use Rattle.answer.specs.declared.Answer.the-variants.{Refused}
@@ -21,7 +21,7 @@ use Rattle.text.specs.Decimal.{digitOf}
 use Rattle.text.specs.Field.{firstPlace, firstWrong, wrongFrom}
 use Rattle.text.specs.Ranges.{within}
 use Rattle.text.specs.declared.Set.the-variants.{Digits}
-use Rattle.text.proofs.Decimals.{number-none, number-more}
+use Rattle.text.proofs.Decimals.{number-none, number-more, number-grows}
 use Rattle.text.proofs.Fields.{wrong-on, digits-most}
 use Rattle.text.proofs.Ranges.{is-false, within-yes, within-ends}
 use Rattle.answer.proofs.Laws.{both-pass}
@@ -39,6 +39,12 @@ unfolding parsed
 parsed-not Pass n r k e = let z : _≡_ {A = ℕ} 0 1 = cc in absurd (omega arith)
 parsed-not (Stop q j) n r k e = cc
 
+-- what never passes has no number
+past-any : (t : Step) (r : Reason) (k n m : ℕ) → parsed (t andThen Stop r k) n ≡ parsed (t andThen Stop r k) m
+unfolding parsed _andThen_
+past-any Pass r k n m = refl
+past-any (Stop q j) r k n m = refl
+
 -- the digits of a part by what the search for a wrong byte says
 module _ (s : List ℕ) (at to k : ℕ) where
   pub digits-wrong : (r : Reason) (j : ℕ) → firstWrong Digits s at to k ≡ Stop r j → Not r j ≡ parsed (digits s at to k) (numberAt s at to)
@@ -49,14 +55,20 @@ module _ (s : List ℕ) (at to k : ℕ) where
   unfolding parsed digits below64 _andThen_
   digits-fit n e q h = rw (e, ← q, lt-ltb n (2 ^ 64) h)
 
-  pub digits-over : firstWrong Digits s at to k ≡ Pass → 2 ^ 64 ≤ numberAt s at to → Not TooLarge (k + 1) ≡ parsed (digits s at to k) (numberAt s at to)
-  unfolding parsed digits below64 _andThen_
-  digits-over e h = rw (e, le-ltb (numberAt s at to) (2 ^ 64) h)
+  pub digits-past : (rest : Step) → firstWrong Digits s at to k ≡ rest → 2 ^ 64 ≤ numberAt s at to
+      → parsed (rest andThen Stop TooLarge (k + 1)) 0 ≡ parsed (digits s at to k) (numberAt s at to)
+  unfolding digits below64
+  digits-past rest e h = rw (e, le-ltb (numberAt s at to) (2 ^ 64) h) (past-any rest TooLarge (k + 1) 0 (numberAt s at to))
 
 -- no digit, and one digit more
 pub number-empty : (s : List ℕ) (at to : ℕ) → to ≤ at → numberAt s at to ≡ 0
 unfolding numberAt
 number-empty s at to h = let none : to - at ≡ 0 = omega arith in rw none number-none
+
+-- digits that follow make it no smaller
+pub number-part : (s : List ℕ) (at i to : ℕ) → i ≤ to → numberAt s at i ≤ numberAt s at to
+unfolding numberAt
+number-part s at i to h = rw (take-take (i - at) (to - at) (drop at s) (omega arith)) at (number-grows (i - at) (take (to - at) (drop at s)))
 
 module _ (s : List ℕ) (at i : ℕ) (from : at ≤ i) where
   pub number-next : i < length s → numberAt s at (i + 1) ≡ numberAt s at i * 10 + digitOf (getD s i 0)

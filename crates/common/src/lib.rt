@@ -2,7 +2,9 @@
 ghost use mathlib.Core.Path.{_≡_};
 ghost use Prim.Native.Nat.{_+_, _*_, _≤_};
 ghost use lib.ListN.{length};
-ghost use Rattle.answer.specs.Steps.{_orAccept_};
+ghost use Rattle.answer.specs.Steps.{_andThen_, _orAccept_};
+ghost use Rattle.answer.specs.declared.Reason.{Reason};
+ghost use Rattle.answer.specs.declared.Step.{Step};
 ghost use Rattle.text.specs.Field.{firstPlace};
 ghost use Rattle.common.specs.Cents.{
   parsed,
@@ -23,7 +25,6 @@ ghost use Rattle.common.specs.Cents.{
 use answer::Answer;
 use answer::Reason;
 use answer::Step;
-use text::Number;
 use text::Set;
 
 // What reading a part gives: its number, or the refusal of the step that failed.
@@ -44,21 +45,17 @@ fn digits_at(s: &[u8], from: usize, to: usize) -> usize
     }
 }
 
-// Digits of any count: first all are tested, then they are read.
-fn long_digits(s: &[u8], at: usize, to: usize, check: u16) -> Parsed
-    requires { ⌜ (at ≤ to) × (to ≤ length (now s)) × (check ≤ 2000) ⌝ }
-    ensures { λ r. ⌜ r ≡ parsed (digits (now (s .entry)) at to check) (numberAt (now (s .entry)) at to) ⌝ }
+// What is told of digits whose number is past 64 bits: the first non-digit among the rest of them, and else that it is too large.
+fn past_limit(rest: Step, check: u16) -> Parsed
+    ensures { λ r. ⌜ r ≡ parsed (rest andThen Step.Stop Reason.TooLarge (check + 1)) 0 ⌝ }
 {
-    match text::first_wrong(Set::Digits, s, at, to, check) {
-        Step::Pass => match text::number_of(&s[at..to]) {
-            Number::Fits(n) => Parsed::Is(n),
-            Number::Over => Parsed::Not(Reason::TooLarge, check as u32 + 1),
-        },
+    match rest {
+        Step::Pass => Parsed::Not(Reason::TooLarge, check as u32 + 1),
         Step::Stop(reason, step) => Parsed::Not(reason, step),
     }
 }
 
-// Digits in one pass, as long as their number is below 2^64.
+// Digits in one pass; past 64 bits the rest of them is only looked through.
 fn digits(s: &[u8], at: usize, to: usize, check: u16) -> Parsed
     requires { ⌜ (at ≤ to) × (to ≤ length (now s)) × (check ≤ 2000) ⌝ }
     ensures { λ r. ⌜ r ≡ parsed (digits (now (s .entry)) at to check) (numberAt (now (s .entry)) at to) ⌝ }
@@ -75,7 +72,7 @@ fn digits(s: &[u8], at: usize, to: usize, check: u16) -> Parsed
             n = n * 10 + d;
             i += 1;
         } else {
-            return long_digits(s, at, to, check);
+            return past_limit(text::first_wrong(Set::Digits, s, i, to, check), check);
         }
     }
     Parsed::Is(n)

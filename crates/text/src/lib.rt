@@ -134,10 +134,13 @@ fn digit(b: u8) -> u64
     if b < 48 { 0 } else { wide(b - 48) }
 }
 
-// Whether a number with one decimal digit more is below 2^64.
+// Whether a number with one decimal digit more is below 2^64. Below 10^18 it always is, and nothing is computed.
 pub fn has_room(n: u64, d: u64) -> bool
     ensures { λ r. ⌜ r ≡ ltb (n * 10 + d) (2 ^ 64) ⌝ }
 {
+    if n < 1_000_000_000_000_000_000 && d < 256 {
+        return true;
+    }
     if n <= 1_844_674_407_370_955_161 {
         return d <= 18_446_744_073_709_551_615 - n * 10;
     }

@@ -1,11 +1,11 @@
 -- `common::digits` meets its contract. The invariant: n is the number of the digits passed, and the search from i on gives what the whole search gives.
--- Where one digit more does not fit in 64 bits `long_digits` takes over. The measure is what is left.
+-- Where one digit more does not fit in 64 bits, the whole number does not, and the search from i on decides. The measure is what is left.
 -- Assumes nothing.
 use Prim.Native.Nat.{_+_, _-_, _*_, _^_, _≤_, _<_}
 use mathlib.Core.Bool.{true}
 use mathlib.Core.Path.{_≡_, refl, sym, _∙_}
 use native.Mathlib.Omega.{arith}
-use borrow.Author.Tests.{not-true, not-false, ltb-true}
+use borrow.Author.Tests.{not-true, not-false, ltb-true, ltb-false}
 use borrow.Author.Needs.{needs}
 use lib.ListN.{getD}
 use Rattle.text.specs.Class.{isDigit}
@@ -14,7 +14,7 @@ use Rattle.text.proofs.Fields.{wrong-here, wrong-none}
 use Rattle.text.specs.Field.{firstWrong, wrongFrom}
 use Rattle.text.specs.declared.Set.the-variants.{Digits}
 use Rattle.common.specs.Cents.{numberAt}
-use Rattle.common.proofs.Reading.{digits-wrong, digits-fit, number-empty, number-next, wrong-next}
+use Rattle.common.proofs.Reading.{digits-wrong, digits-fit, digits-past, number-empty, number-part, number-next, wrong-next}
 use Rattle.common.proofs.digits.Statement.{statement}
 use Rattle.common.proofs.digits.Tie as tie
 
@@ -95,11 +95,25 @@ loop-again c =
       k .loop .inv .4 ∙ wrong-next (a .s .now) (a .at) (k .loop .i) (k .loop .inv .0) (a .to) (a .check) h (good g),
     )
 
-long-digits-requires : tie.Need-long-digits-requires Inv-loop μ-loop
-long-digits-requires c κs = search needs
+first-wrong-requires : tie.Need-first-wrong-requires Inv-loop μ-loop
+first-wrong-requires c κs = search needs
+
+past-limit-requires : tie.Need-past-limit-requires Inv-loop μ-loop
+past-limit-requires c κs = search needs
 
 returns-2 : tie.Need-returns-2 Inv-loop μ-loop
-returns-2 c = c .long-digits .ensures
+unfolding firstWrong
+returns-2 c =
+    let e = c .before .before in
+    let g = e .before .before in
+    let k = g .before .before .before .before in
+    let a = k .before .before .args in
+    let over : 2 ^ 64 ≤ k .loop .n * 10 + (getD (a .s .now) (k .loop .i) 0 - 48) = ltb-false _ _ (sym (e .before .has-room .ensures) ∙ e .if2 .left) in
+    let next = number-next (a .s .now) (a .at) (k .loop .i) (k .loop .inv .0) (omega arith) in
+    let grown = number-part (a .s .now) (a .at) (k .loop .i + 1) (a .to) (omega arith) in
+    c .past-limit .ensures
+    ∙ digits-past (a .s .now) (a .at) (a .to) (a .check) (c .before .first-wrong .result) (k .loop .inv .4 ∙ sym (c .before .first-wrong .ensures))
+    (omega arith)
 
 returns-3 : tie.Need-returns-3 Inv-loop μ-loop
 returns-3 c =
@@ -128,6 +142,7 @@ digits-spec =
     add-i
     loop-less
     loop-again
-    long-digits-requires
+    first-wrong-requires
+    past-limit-requires
     returns-2
     returns-3)
