@@ -1,5 +1,6 @@
 //! The original as a program of the same shape as ours: a batch on standard input through a buffer of 64 KiB, a line a record on
-//! standard output through another. It has no places and no reasons to tell, so a refusal is answer 3 at place 0.
+//! standard output through another. It has no places and no reasons to tell, so a refusal is answer 3 at place 0;
+//! it is for batches of whole records, and its stop is always 0.
 #![allow(dead_code)]
 mod both;
 include!(concat!(env!("OUT_DIR"), "/original.rs"));
