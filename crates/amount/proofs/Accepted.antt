@@ -1,14 +1,12 @@
 -- An amount that is accepted is ASCII.
--- Assumes nothing.
 use Prim.Native.Nat.{ℕ, _+_}
 use mathlib.Core.Path.{_≡_, refl}
-use mathlib.Core.Bool.{Bool, true, false}
+use mathlib.Core.Bool.{Bool, true, false, cond}
 use mathlib.Core.List.{List}
 use native.Mathlib.Omega.{arith}
 use borrow.Author.Tests.{ltb-true, ltb-false, eqb-true}
 use lib.Dec.{eqb, ltb}
 use lib.ListN.{length, getD}
-use Rattle.answer.specs.Choice.{pick}
 use Rattle.answer.specs.declared.Answer.the-variants.{Accepted}
 use Rattle.answer.specs.declared.Step.the-variants.{Pass}
 use Rattle.answer.proofs.Laws.{both-pass, accepted-pass}
@@ -21,7 +19,7 @@ module _ (s : List ℕ) where
   unfolding start
   start-low = go (eqb (getD s 0 0) 43) refl
     where
-      go : (u : Bool) → eqb (getD s 0 0) 43 ≡ u → Low s 0 (pick u 1 0)
+      go : (u : Bool) → eqb (getD s 0 0) 43 ≡ u → Low s 0 (cond u 1 0)
       go true e = low-one s 0 (omega (arith, eqb-true (getD s 0 0) 43 e))
       go false e = low-none s 0 0 (omega arith)
 
@@ -33,7 +31,7 @@ module _ (s : List ℕ) where
   unfolding fraction
   fraction-low = go (ltb (dot s) (length s)) refl
     where
-      go : (u : Bool) → ltb (dot s) (length s) ≡ u → pick u (part s (dot s + 1) (length s) 5 606) Pass ≡ Pass → Low s (dot s) (length s)
+      go : (u : Bool) → ltb (dot s) (length s) ≡ u → cond u (part s (dot s + 1) (length s) 5 606) Pass ≡ Pass → Low s (dot s) (length s)
       go true h e =
           low-join s (dot s) (dot s + 1) (dot s + 1) (length s) (omega arith) (low-place s 46 (omega arith) (ltb-true (dot s) (length s) h))
           (part-low (dot s + 1) (length s) 5 606 e)

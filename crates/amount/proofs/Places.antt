@@ -1,12 +1,10 @@
 -- What the rule of an amount says fits a verdict.
--- Assumes nothing.
 use Prim.Native.Nat.{ℕ, _+_, _-_, _^_, _≤_, _<_}
-use mathlib.Core.Bool.{Bool, true, false}
+use mathlib.Core.Bool.{Bool, true, false, cond}
 use mathlib.Core.List.{List}
 use native.Mathlib.Omega.{arith}
 use lib.Dec.{eqb}
 use lib.ListN.{length, getD}
-use Rattle.answer.specs.Choice.{pick}
 use Rattle.text.proofs.Fields.{first-most}
 use Rattle.text.proofs.Near.{Near, Small, Short, nears}
 use Rattle.amount.specs.Amount.{noMinus, start, dot, atMost, part, fraction, notZero, validateAmount}
@@ -15,7 +13,7 @@ start-near : (s : List ℕ) → start s < 2 ^ 16
 unfolding start
 start-near s = go (eqb (getD s 0 0) 43)
   where
-    go : (t : Bool) → pick t 1 0 < 2 ^ 16
+    go : (t : Bool) → cond t 1 0 < 2 ^ 16
     go true = omega arith
     go false = omega arith
 

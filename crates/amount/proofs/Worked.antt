@@ -1,5 +1,4 @@
--- Worked examples: document 01's amounts and one for each refusing step, one theorem.
--- Assumes nothing.
+-- Worked examples: SCOPE's amounts and one for each refusing step, one theorem.
 use mathlib.Core.Path.{_≡_, refl}
 use mathlib.Core.List.{[], _∷_, map}
 use Rattle.answer.specs.Steps.{_andThen_, _orAccept_}

@@ -1,5 +1,4 @@
 -- Laws of the search for a digit from 1 to 9, from a place on.
--- Assumes nothing.
 use Prim.Native.Nat.{ℕ, _+_, _≤_, _<_}
 use mathlib.Core.Path.{_≡_}
 use mathlib.Core.Bool.{true, false}

@@ -1,5 +1,4 @@
 -- Laws of steps, for the proofs of rules: what a chain's calls ensure, joined.
--- Assumes nothing.
 use Prim.Native.Nat.{ℕ}
 use mathlib.Core.Path.{_≡_, refl}
 use mathlib.Core.Bool.{Bool, true, false}

@@ -1,10 +1,8 @@
--- Worked examples: answers of document 01 in its own numbers, and chains of steps.
--- Assumes nothing.
-use Prim.Native.Nat.{ℕ}
+-- Worked examples: answers of SCOPE in its own numbers, and chains of steps.
 use mathlib.Core.Path.{_≡_, refl}
 use mathlib.Core.Bool.{true, false}
 use mathlib.Core.List.{List, [], _∷_, map}
-use Rattle.answer.specs.Table.{Numbers, line, numbersOf}
+use Rattle.answer.specs.Table.{row, numbersOf, checkOf}
 use Rattle.answer.specs.Steps.{must, _andThen_, _orAccept_}
 use Rattle.answer.specs.declared.Reason.the-variants.{Wrong, Range, Remainder, NotListed, Missing}
 use Rattle.answer.specs.declared.Answer.{Answer}
@@ -21,9 +19,10 @@ examples =
     ∷ (Pass andThen must true NotListed 705 orAccept 7)
     ∷ []
 
-abbrev say : ℕ → ℕ → ℕ → ℕ → Numbers
-say n p v k = record { line = line n p v; check = k }
-
-pub worked : map numbersOf examples ≡ say 0 0 100050 0 ∷ say 5 0 28 107 ∷ say 4 17 60 518 ∷ say 3 3 0 605 ∷ say 0 0 7 0 ∷ []
+pub worked : map numbersOf examples ≡ row 0 0 100050 ∷ row 5 0 28 ∷ row 4 17 60 ∷ row 3 3 0 ∷ row 0 0 7 ∷ []
 unfolding _andThen_ _orAccept_
 worked = refl
+
+pub checks : map checkOf examples ≡ 0 ∷ 107 ∷ 518 ∷ 605 ∷ 0 ∷ []
+unfolding _andThen_ _orAccept_
+checks = refl

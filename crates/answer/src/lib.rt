@@ -1,9 +1,9 @@
 // What a check of a field answers: acceptance with a number, or a refusal with its reason and the step that gave it.
 ghost use mathlib.Core.Path.{_≡_};
-ghost use Rattle.answer.specs.Table.{numberOfReason, placeOfReason, valueOfReason, numberOf, placeOf, valueOf, checkOf};
+ghost use Rattle.answer.specs.Table.{row, rowOf, numbersOf, numberOf, placeOf, valueOf, checkOf};
 ghost use Rattle.answer.specs.Steps.{_andThen_, _orAccept_};
 
-// One case for each of document 01's refusals, with the place and the number that it can have, and nothing else.
+// One case for each refusal of SCOPE's answer table, with the place and the number that it can have, and nothing else.
 pub enum Reason {
     NotUtf8 { place: usize },
     Length { place: usize, count: u64 },
@@ -34,103 +34,82 @@ pub enum Step {
     Stop(Reason, u32),
 }
 
+// The three numbers of an answer: SCOPE's number of it, the place to look at, and what belongs to it.
+pub struct Numbers {
+    pub number: u8,
+    pub place: usize,
+    pub value: u64,
+}
+
+// A row of SCOPE's answer table.
+fn row(number: u8, place: usize, value: u64) -> Numbers
+    ensures { λ r. ⌜ r ≡ row number place value ⌝ }
+{
+    Numbers {
+        number,
+        place,
+        value,
+    }
+}
+
 impl Reason {
-    pub fn number(self) -> u8
-        ensures { λ r. ⌜ r ≡ numberOfReason self ⌝ }
+    // The table, one row a reason.
+    pub fn numbers(self) -> Numbers
+        ensures { λ r. ⌜ r ≡ rowOf self ⌝ }
     {
         match self {
-            Reason::NotUtf8 { place: _ } => 1,
-            Reason::Length { place: _, count: _ } => 2,
-            Reason::Wrong { place: _ } => 3,
-            Reason::Range { place: _, value: _ } => 4,
-            Reason::Remainder { rest: _ } => 5,
-            Reason::NotListed => 6,
-            Reason::NotPositive => 7,
-            Reason::Missing { place: _ } => 8,
-            Reason::TooLarge => 9,
-            Reason::Trailing { place: _ } => 10,
-            Reason::TooLong { count: _ } => 11,
-            Reason::UnknownKind { kind: _ } => 12,
-            Reason::NoSheet => 20,
-            Reason::NoPlace { given: _ } => 21,
-            Reason::Unfit { place: _ } => 22,
-        }
-    }
-
-    pub fn place(self) -> usize
-        ensures { λ r. ⌜ r ≡ placeOfReason self ⌝ }
-    {
-        match self {
-            Reason::NotUtf8 { place } => place,
-            Reason::Length { place, count: _ } => place,
-            Reason::Wrong { place } => place,
-            Reason::Range { place, value: _ } => place,
-            Reason::Remainder { rest: _ } => 0,
-            Reason::NotListed => 0,
-            Reason::NotPositive => 0,
-            Reason::Missing { place } => place,
-            Reason::TooLarge => 0,
-            Reason::Trailing { place } => place,
-            Reason::TooLong { count: _ } => 0,
-            Reason::UnknownKind { kind: _ } => 0,
-            Reason::NoSheet => 0,
-            Reason::NoPlace { given: _ } => 0,
-            Reason::Unfit { place } => place,
-        }
-    }
-
-    pub fn value(self) -> u64
-        ensures { λ r. ⌜ r ≡ valueOfReason self ⌝ }
-    {
-        match self {
-            Reason::NotUtf8 { place: _ } => 0,
-            Reason::Length { place: _, count } => count,
-            Reason::Wrong { place: _ } => 0,
-            Reason::Range { place: _, value } => value,
-            Reason::Remainder { rest } => rest,
-            Reason::NotListed => 0,
-            Reason::NotPositive => 0,
-            Reason::Missing { place: _ } => 0,
-            Reason::TooLarge => 0,
-            Reason::Trailing { place: _ } => 0,
-            Reason::TooLong { count } => count,
-            Reason::UnknownKind { kind } => kind,
-            Reason::NoSheet => 0,
-            Reason::NoPlace { given } => given,
-            Reason::Unfit { place: _ } => 0,
+            Reason::NotUtf8 { place } => row(1, place, 0),
+            Reason::Length { place, count } => row(2, place, count),
+            Reason::Wrong { place } => row(3, place, 0),
+            Reason::Range { place, value } => row(4, place, value),
+            Reason::Remainder { rest } => row(5, 0, rest),
+            Reason::NotListed => row(6, 0, 0),
+            Reason::NotPositive => row(7, 0, 0),
+            Reason::Missing { place } => row(8, place, 0),
+            Reason::TooLarge => row(9, 0, 0),
+            Reason::Trailing { place } => row(10, place, 0),
+            Reason::TooLong { count } => row(11, 0, count),
+            Reason::UnknownKind { kind } => row(12, 0, kind),
+            Reason::NoSheet => row(20, 0, 0),
+            Reason::NoPlace { given } => row(21, 0, given),
+            Reason::Unfit { place } => row(22, place, 0),
         }
     }
 }
 
-// The numbers of document 01's answer table, and the check number.
 impl Answer {
+    // Acceptance has number 0 and its own number as the value; a refusal has its reason's row.
+    pub fn numbers(self) -> Numbers
+        ensures { λ r. ⌜ r ≡ numbersOf self ⌝ }
+    {
+        match self {
+            Answer::Accepted(n) => row(0, 0, n),
+            Answer::Refused(reason, _) => reason.numbers(),
+        }
+    }
+
     pub fn number(self) -> u8
         ensures { λ r. ⌜ r ≡ numberOf self ⌝ }
     {
-        match self {
-            Answer::Accepted(_) => 0,
-            Answer::Refused(reason, _) => reason.number(),
-        }
+        let numbers = self.numbers();
+        numbers.number
     }
 
     pub fn place(self) -> usize
         ensures { λ r. ⌜ r ≡ placeOf self ⌝ }
     {
-        match self {
-            Answer::Accepted(_) => 0,
-            Answer::Refused(reason, _) => reason.place(),
-        }
+        let numbers = self.numbers();
+        numbers.place
     }
 
     pub fn value(self) -> u64
         ensures { λ r. ⌜ r ≡ valueOf self ⌝ }
     {
-        match self {
-            Answer::Accepted(n) => n,
-            Answer::Refused(reason, _) => reason.value(),
-        }
+        let numbers = self.numbers();
+        numbers.value
     }
 
+    // The check number of the step that refused (docs/CHECKS.md), and 0 for acceptance.
     pub fn check(self) -> u32
         ensures { λ r. ⌜ r ≡ checkOf self ⌝ }
     {
@@ -142,7 +121,7 @@ impl Answer {
 }
 
 impl Step {
-    // The next step's word where this one passes.
+    // The first of two steps that stops says why; where this one passes, the answer is the next one's.
     pub fn then(self, next: Step) -> Step
         ensures { λ r. ⌜ r ≡ self andThen next ⌝ }
     {
@@ -152,7 +131,7 @@ impl Step {
         }
     }
 
-    // The answer of a rule whose steps these were.
+    // A rule's answer: accepted with n where all its steps passed, else the refusal of the step that stopped.
     pub fn or_accept(self, n: u64) -> Answer
         ensures { λ r. ⌜ r ≡ self orAccept n ⌝ }
     {

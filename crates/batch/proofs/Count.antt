@@ -1,5 +1,4 @@
 -- The walk judges the first of the batch's whole records, as many as budget and room allow, and writes their verdicts one after another.
--- Assumes nothing.
 use Prim.Native.Nat.{ℕ, zero, suc, _+_, _≤_}
 use mathlib.Core.Path.{_≡_, refl, sym, ap, _∙_}
 use mathlib.Core.Bool.{Bool, true, false}
@@ -10,15 +9,15 @@ use lib.ListN.{length, take, drop, length-drop}
 use lib.Seq.{drop-drop}
 use Rattle.batch.specs.Head.{headOf}
 use Rattle.batch.specs.Verdict.{verdictSize}
-use Rattle.batch.specs.Records.{Entry, entryAt, recordsOf, sizes, verdictOf, verdictsOf}
+use Rattle.batch.specs.Records.{RecordAt, recordAt, recordsOf, sizes, verdictOf, verdictsOf}
 use Rattle.batch.specs.Walk.{nextOf, Outcome, stopped, ahead, walk}
-use Rattle.batch.specs.Count.{Why, Told}
+use Rattle.batch.specs.Count.{Why, Counted}
 use Rattle.batch.specs.declared.Head.{Head}
 use Rattle.batch.specs.declared.Head.the-variants.{Record}
 use Rattle.batch.specs.declared.Stop.{Stop}
 use Rattle.batch.specs.declared.Stop.the-variants.{Finished, Budget, Room, Cut, Offset, Long}
-use Rattle.batch.specs.declared.Turn.{Turn}
-use Rattle.batch.specs.declared.Turn.the-variants.{Stops, Judges}
+use Rattle.batch.specs.declared.Act.{Act}
+use Rattle.batch.specs.declared.Act.the-variants.{Stops, Judges}
 use Rattle.batch.proofs.Heads.{stands, Stopping, stopping, judged}
 use Rattle.batch.proofs.Laws.{walk-stop, walk-judged}
 use Rattle.batch.proofs.Records.{Walks, none, one, walks, first, size}
@@ -27,7 +26,7 @@ never : (b : Bool) → b ≡ false → b ≡ true → ⊥
 never b p q = let z : true ≡ false = sym q ∙ p in let y : _≡_ {A = ℕ} 0 1 = cc in omega arith
 
 -- where a call stops at once
-why-stop : {batch : List ℕ} {o : ℕ} {es : List Entry} → Walks batch o es → (out : List ℕ) (b : ℕ) (s : Stop)
+why-stop : {batch : List ℕ} {o : ℕ} {es : List RecordAt} → Walks batch o es → (out : List ℕ) (b : ℕ) (s : Stop)
     → Stopping (headOf batch) (length out) b s → Why s 0 (length es) b 0 out (headOf (drop (sizes es) batch))
 unfolding sizes
 why-stop (none h) out b Finished p = (refl, p .1)
@@ -54,7 +53,7 @@ why-more Offset j n b w out h f p = p
 why-more Long j n b w out h f p = (omega (arith, p .0), p .1)
 
 told-stop : (batch : List ℕ) (o : ℕ) (out : List ℕ) (b : ℕ) (s : Stop) → nextOf (headOf batch) (length out) b ≡ Stops s
-    → Told batch (recordsOf batch o) out b (stopped s out)
+    → Counted batch (recordsOf batch o) out b (stopped s out)
 unfolding sizes verdictsOf
 told-stop batch o out b s e =
     record {
@@ -67,9 +66,9 @@ told-stop batch o out b s e =
       why = why-stop (walks batch o) out b s (stopping (headOf batch) (length out) b s e);
     }
 
-told-judged : (batch : List ℕ) (o : ℕ) (es : List Entry) (out : List ℕ) (b k n : ℕ) (r : Outcome) → headOf batch ≡ Record k n → verdictSize ≤ length out
-    → Told (drop (4 + n) batch) es (drop verdictSize out) b r
-    → Told batch (entryAt batch o k n ∷ es) out (suc b) (ahead 1 (4 + n) verdictSize (verdictOf (entryAt batch o k n)) r)
+told-judged : (batch : List ℕ) (o : ℕ) (es : List RecordAt) (out : List ℕ) (b k n : ℕ) (r : Outcome) → headOf batch ≡ Record k n → verdictSize ≤ length out
+    → Counted (drop (4 + n) batch) es (drop verdictSize out) b r
+    → Counted batch (recordAt batch o k n ∷ es) out (suc b) (ahead 1 (4 + n) verdictSize (verdictOf (recordAt batch o k n)) r)
 unfolding verdictsOf
 told-judged batch o es out b k n r e f t =
     let q : 1 + r .judged ≡ suc (r .judged) = omega arith in
@@ -79,24 +78,24 @@ told-judged batch o es out b k n r e f t =
       written = omega (arith, t .written);
       room = omega (arith, t .room, length-drop verdictSize out);
       read = rw (q, size batch o k n (take (r .judged) es) e, t .read);
-      bytes = rw q (ap (λ (l : List ℕ). verdictOf (entryAt batch o k n) ++ l) (t .bytes) ∙ simp (append-assoc, drop-drop));
+      bytes = rw q (ap (λ (l : List ℕ). verdictOf (recordAt batch o k n) ++ l) (t .bytes) ∙ simp (append-assoc, drop-drop));
       why = rw (q, size batch o k n es e, ← drop-drop (sizes es) (4 + n) batch)
           (why-more (r .stop) (r .judged) (length es) b (r .written) out _ f (t .why));
     }
 
-pub told : (b : ℕ) (batch : List ℕ) (o : ℕ) (out : List ℕ) → Told batch (recordsOf batch o) out b (walk b batch o out)
+pub told : (b : ℕ) (batch : List ℕ) (o : ℕ) (out : List ℕ) → Counted batch (recordsOf batch o) out b (walk b batch o out)
 told zero batch o out = go (nextOf (headOf batch) (length out) 0) refl
   where
-    go : (t : Turn) → nextOf (headOf batch) (length out) 0 ≡ t → Told batch (recordsOf batch o) out 0 (walk 0 batch o out)
+    go : (t : Act) → nextOf (headOf batch) (length out) 0 ≡ t → Counted batch (recordsOf batch o) out 0 (walk 0 batch o out)
     go (Stops s) e = rw (walk-stop 0 batch o out s e) (told-stop batch o out 0 s e)
     go (Judges k n) e = absurd (omega (arith, judged (headOf batch) (length out) 0 k n e .left))
 told (suc b) batch o out =
     go (nextOf (headOf batch) (length out) (suc b)) refl (λ n. told b (drop (4 + n) batch) (o + (4 + n)) (drop verdictSize out))
   where
-    go : (t : Turn) → nextOf (headOf batch) (length out) (suc b) ≡ t
-        → ((n : ℕ) → Told (drop (4 + n) batch) (recordsOf (drop (4 + n) batch) (o + (4 + n))) (drop verdictSize out) b
+    go : (t : Act) → nextOf (headOf batch) (length out) (suc b) ≡ t
+        → ((n : ℕ) → Counted (drop (4 + n) batch) (recordsOf (drop (4 + n) batch) (o + (4 + n))) (drop verdictSize out) b
         (walk b (drop (4 + n) batch) (o + (4 + n)) (drop verdictSize out)))
-        → Told batch (recordsOf batch o) out (suc b) (walk (suc b) batch o out)
+        → Counted batch (recordsOf batch o) out (suc b) (walk (suc b) batch o out)
     go (Stops s) e ih = rw (walk-stop (suc b) batch o out s e) (told-stop batch o out (suc b) s e)
     go (Judges k n) e ih =
         let h = judged (headOf batch) (length out) (suc b) k n e in

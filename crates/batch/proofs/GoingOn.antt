@@ -1,20 +1,18 @@
 -- Calls one after another judge the batch's whole records in turn: whatever their budgets and rooms, in sum they give the verdicts of the first of them.
--- Assumes nothing.
 use Prim.Native.Nat.{ℕ, _+_, _*_, _^_, _≤_, _<_}
 use mathlib.Core.Path.{_≡_, refl, sym, ap, _∙_}
-use mathlib.Core.Bool.{Bool, true, false}
+use mathlib.Core.Bool.{Bool, true, false, cond}
 use mathlib.Core.List.{List, [], _∷_, _++_}
 use native.Mathlib.Omega.{arith}
 use lib.Dec.{leb}
 use lib.ListN.{length, take, drop, length-drop, length-append, take-append-drop}
 use lib.Seq.{drop-drop, take-at, take-add, take-length, take-append-le, length-take-le}
 use borrow.Author.Tests.{lt-leb}
-use Rattle.answer.specs.Choice.{pick}
 use Rattle.batch.specs.Head.{headOf}
 use Rattle.batch.specs.Verdict.{verdictSize}
 use Rattle.batch.specs.Records.{recordsOf, sizes, verdictsOf, offsetsOf, offsetsIn, Increasing}
 use Rattle.batch.specs.Walk.{Outcome, stopped, walk, callOf}
-use Rattle.batch.specs.Count.{endOf, Why, Told}
+use Rattle.batch.specs.Count.{endOf, Why, Counted}
 use Rattle.batch.specs.GoingOn.{Sum, sumOf, plus, pauses, allOf, Call, goOn}
 use Rattle.batch.specs.declared.Head.{Head}
 use Rattle.batch.specs.declared.Stop.{Stop}
@@ -55,7 +53,7 @@ all-judged Cut j n b w out h y p = y
 all-judged Offset j n b w out h y p = absurd y
 all-judged Long j n b w out h y p = y
 
-pub did : (batch : List ℕ) (offset : ℕ) (out : List ℕ) (b : ℕ) (r : Outcome) → Told batch (recordsOf batch offset) out b r → Did batch offset (sumOf r)
+pub did : (batch : List ℕ) (offset : ℕ) (out : List ℕ) (b : ℕ) (r : Outcome) → Counted batch (recordsOf batch offset) out b r → Did batch offset (sumOf r)
 did batch offset out b r t =
     let es = recordsOf batch offset in
     let v = verdictsOf (take (r .judged) es) in
@@ -142,7 +140,7 @@ pub did-call : (batch : List ℕ) (offset : ℕ) (out : List ℕ) (b : ℕ) → 
 did-call batch offset out b h = rw (near batch offset out b h) (did batch offset out b (walk b batch offset out) (told b batch offset out))
 
 either-way : (t : Bool) (batch : List ℕ) (offset : ℕ) (r g : Sum) → Did batch offset r → Did (drop (r .read) batch) (offset + r .read) g
-    → Did batch offset (pick t (plus r g) r)
+    → Did batch offset (cond t (plus r g) r)
 either-way true batch offset r g d f = did-plus batch offset r g (d .part) f
 either-way false batch offset r g d f = d
 

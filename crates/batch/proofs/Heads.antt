@@ -1,15 +1,13 @@
 -- Laws of heads: what a whole record at the start of a batch has, and what a turn says of the head that it was given.
--- Assumes nothing.
 use Prim.Native.Nat.{ℕ, _+_, _≤_, _<_}
 use mathlib.Core.Path.{_≡_, refl, sym, subst, _∙_}
-use mathlib.Core.Bool.{Bool, true, false}
+use mathlib.Core.Bool.{Bool, true, false, cond}
 use mathlib.Core.List.{List, _++_}
 use native.Mathlib.Omega.{arith}
 use lib.Dec.{ltb, eqb}
 use lib.ListN.{length, length-append}
 use borrow.Author.Tests.{ltb-true, ltb-false, eqb-true, eqb-false, ne-eqb, le-ltb}
-use Rattle.answer.specs.Choice.{pick}
-use Rattle.batch.specs.Number.{numberAt}
+use Rattle.batch.specs.Number.{littleAt}
 use Rattle.batch.specs.Head.{headLimit, headOf}
 use Rattle.batch.specs.Verdict.{verdictSize}
 use Rattle.batch.specs.Walk.{unlessSpent, nextOf}
@@ -18,18 +16,18 @@ use Rattle.batch.specs.declared.Head.{Head}
 use Rattle.batch.specs.declared.Head.the-variants.{End, Short, TooLong, CutShort, Record}
 use Rattle.batch.specs.declared.Stop.{Stop}
 use Rattle.batch.specs.declared.Stop.the-variants.{Finished, Budget, Room, Cut, Offset, Long}
-use Rattle.batch.specs.declared.Turn.{Turn}
-use Rattle.batch.specs.declared.Turn.the-variants.{Stops, Judges}
+use Rattle.batch.specs.declared.Act.{Act}
+use Rattle.batch.specs.declared.Act.the-variants.{Stops, Judges}
 use Rattle.batch.proofs.Numbers.{number-append}
 
 -- what a whole record at the start of a batch has
 pub record Whole (s : List ℕ) (k n : ℕ) : Type 0 where
-  pub kind : k ≡ numberAt s 2 2
-  pub is : n ≡ numberAt s 0 2
+  pub kind : k ≡ littleAt s 2 2
+  pub is : n ≡ littleAt s 0 2
   pub legal : n ≤ headLimit
   pub fits : 4 + n ≤ length s
 
-picked : (b1 b2 b3 b4 : Bool) (v w k n : ℕ) → pick b1 End (pick b2 Short (pick b3 TooLong (pick b4 CutShort (Record w v)))) ≡ Record k n
+picked : (b1 b2 b3 b4 : Bool) (v w k n : ℕ) → cond b1 End (cond b2 Short (cond b3 TooLong (cond b4 CutShort (Record w v)))) ≡ Record k n
     → (b3 ≡ false) × (b4 ≡ false) × (k ≡ w) × (n ≡ v)
 picked true b2 b3 b4 v w k n e = let z : _≡_ {A = ℕ} 0 1 = cc in absurd (omega arith)
 picked false true b3 b4 v w k n e = let z : _≡_ {A = ℕ} 0 1 = cc in absurd (omega arith)
@@ -41,8 +39,8 @@ pub whole : (s : List ℕ) (k n : ℕ) → headOf s ≡ Record k n → Whole s k
 unfolding headOf
 whole s k n e =
     let l = length s in
-    let v = numberAt s 0 2 in
-    let p = picked (eqb l 0) (ltb l 4) (ltb headLimit v) (ltb l (4 + v)) v (numberAt s 2 2) k n e in
+    let v = littleAt s 0 2 in
+    let p = picked (eqb l 0) (ltb l 4) (ltb headLimit v) (ltb l (4 + v)) v (littleAt s 2 2) k n e in
     let f3 = ltb-false headLimit v (p .0) in
     let f4 = ltb-false l (4 + v) (p .1) in
     record { kind = p .2; is = p .3; legal = omega (arith, p .3); fits = omega (arith, p .3) }
@@ -51,7 +49,7 @@ pub whole-is : {s : List ℕ} {k n : ℕ} → Whole s k n → headOf s ≡ Recor
 unfolding headOf
 whole-is {s} {k} {n} w =
     let l = length s in
-    let v = numberAt s 0 2 in
+    let v = littleAt s 0 2 in
     simp (
       ne-eqb l 0 (λ h. omega (arith, w .fits)),
       le-ltb l 4 (omega (arith, w .fits)),
@@ -94,14 +92,14 @@ Stopping h room budget Cut = (stands h ≡ false) × (endOf h ≡ Cut)
 Stopping h room budget Offset = ⊥
 Stopping h room budget Long = (stands h ≡ false) × (endOf h ≡ Long)
 
-abbrev pub Said : Head → ℕ → ℕ → Turn → Type 0
+abbrev pub Said : Head → ℕ → ℕ → Act → Type 0
 Said h room budget (Stops s) = Stopping h room budget s
 Said h room budget (Judges k n) = Judged h room budget k n
 
-unless : (h : Head) (room budget : ℕ) (t : Turn) → (0 < budget → Said h room budget t) → Said h room budget (unlessSpent budget t)
+unless : (h : Head) (room budget : ℕ) (t : Act) → (0 < budget → Said h room budget t) → Said h room budget (unlessSpent budget t)
 unless h room budget t f = go (eqb budget 0) refl
   where
-    go : (b : Bool) → eqb budget 0 ≡ b → Said h room budget (pick b (Stops Budget) t)
+    go : (b : Bool) → eqb budget 0 ≡ b → Said h room budget (cond b (Stops Budget) t)
     go true e = eqb-true budget 0 e
     go false e = let n = eqb-false budget 0 e in f (omega arith)
 
@@ -113,9 +111,9 @@ said Short room budget = unless Short room budget (Stops Cut) (λ b. (refl, refl
 said TooLong room budget = unless TooLong room budget (Stops Long) (λ b. (refl, refl))
 said CutShort room budget = unless CutShort room budget (Stops Cut) (λ b. (refl, refl))
 said (Record k n) room budget =
-    unless (Record k n) room budget (pick (ltb room verdictSize) (Stops Room) (Judges k n)) (λ b. go b (ltb room verdictSize) refl)
+    unless (Record k n) room budget (cond (ltb room verdictSize) (Stops Room) (Judges k n)) (λ b. go b (ltb room verdictSize) refl)
   where
-    go : 0 < budget → (t : Bool) → ltb room verdictSize ≡ t → Said (Record k n) room budget (pick t (Stops Room) (Judges k n))
+    go : 0 < budget → (t : Bool) → ltb room verdictSize ≡ t → Said (Record k n) room budget (cond t (Stops Room) (Judges k n))
     go b true e = (refl, ltb-true room verdictSize e)
     go b false e = record { head = refl; space = ltb-false room verdictSize e; left = b }
 

@@ -1,5 +1,4 @@
 -- Laws of the walk that the proofs of the code cite: one turn of it, a part that goes to the end, and the loop's invariant.
--- Assumes nothing.
 use Prim.Native.Nat.{ℕ, zero, suc, _+_, _-_, _≤_}
 use mathlib.Core.Path.{_≡_, refl, sym, ap, _∙_}
 use mathlib.Core.List.{List, [], _++_, append-assoc, append-nil}
@@ -10,11 +9,11 @@ use lib.ListN.{length, take, drop, take-append-drop, length-drop, length-append,
 use lib.Seq.{take-all, drop-drop, take-at, drop-at, length-take-le}
 use Rattle.batch.specs.Head.{headOf}
 use Rattle.batch.specs.Verdict.{verdictSize, answerBytes, verdict}
-use Rattle.batch.specs.Records.{Entry, entryAt, verdictOf}
-use Rattle.batch.specs.Walk.{nextOf, turnOut, stopped, ahead, walk}
+use Rattle.batch.specs.Records.{RecordAt, recordAt, verdictOf}
+use Rattle.batch.specs.Walk.{nextOf, actOut, stopped, ahead, walk}
 use Rattle.batch.specs.declared.Stop.{Stop}
-use Rattle.batch.specs.declared.Turn.{Turn}
-use Rattle.batch.specs.declared.Turn.the-variants.{Stops, Judges}
+use Rattle.batch.specs.declared.Act.{Act}
+use Rattle.batch.specs.declared.Act.the-variants.{Stops, Judges}
 use Rattle.batch.proofs.Heads.{Whole, whole, Judged, judged}
 
 pub walk-stop : (b : ℕ) (batch : List ℕ) (offset : ℕ) (out : List ℕ) (s : Stop)
@@ -26,7 +25,7 @@ walk-stop (suc b) batch offset out s e = simp e
 pub walk-judged : (b : ℕ) (batch : List ℕ) (offset : ℕ) (out : List ℕ) (k n : ℕ)
     → nextOf (headOf batch) (length out) b ≡ Judges k n
     → walk b batch offset out
-    ≡ ahead 1 (4 + n) verdictSize (verdictOf (entryAt batch offset k n)) (walk (b - 1) (drop (4 + n) batch) (offset + (4 + n)) (drop verdictSize out))
+    ≡ ahead 1 (4 + n) verdictSize (verdictOf (recordAt batch offset k n)) (walk (b - 1) (drop (4 + n) batch) (offset + (4 + n)) (drop verdictSize out))
 unfolding walk
 walk-judged zero batch offset out k n e = absurd (omega (arith, judged (headOf batch) (length out) 0 k n e .left))
 walk-judged (suc b) batch offset out k n e = simp (e, sub-one)
@@ -46,7 +45,7 @@ put-back w l last x e = simp (past-end, append-nil) (ap (λ (k : List ℕ). take
 pub value-at : (batch : List ℕ) (at n : ℕ) → take (at + 4 + n - (at + 4)) (drop (at + 4) batch) ≡ take n (drop 4 (drop at batch))
 value-at batch at n = rw (add-sub-cancel-left, drop-drop)
 
-pub length-verdictOf : (e : Entry) → length (verdictOf e) ≡ verdictSize
+pub length-verdictOf : (e : RecordAt) → length (verdictOf e) ≡ verdictSize
 unfolding verdictOf verdict answerBytes
 length-verdictOf e = refl
 
@@ -65,7 +64,7 @@ start batch offset out budget =
 
 -- one turn of the loop, from what `judge_next` ensures of its result and of the output
 module _ (batch : List ℕ) (offset : ℕ) (out₀ : List ℕ) (budget : ℕ) (out : List ℕ) (done at w : ℕ) (g : Going batch offset out₀ budget out done at w)
-    (r : Turn) (last : List ℕ) (q : (r ≡ nextOf (headOf (drop at batch)) (length out - w) (budget - done)) × (last ≡ take w out ++ turnOut r (drop at batch) (offset + at) (drop w out))) where
+    (r : Act) (last : List ℕ) (q : (r ≡ nextOf (headOf (drop at batch)) (length out - w) (budget - done)) × (last ≡ take w out ++ actOut r (drop at batch) (offset + at) (drop w out))) where
   told : nextOf (headOf (drop at batch)) (length (drop w out)) (budget - done) ≡ r
   told = rw length-drop (sym (q .0))
 
@@ -87,11 +86,11 @@ module _ (batch : List ℕ) (offset : ℕ) (out₀ : List ℕ) (budget : ℕ) (o
   again k n e =
       let h = may k n e in
       let f = fits k n e in
-      let v : List ℕ = verdictOf (entryAt (drop at batch) (offset + at) k n) in
+      let v : List ℕ = verdictOf (recordAt (drop at batch) (offset + at) k n) in
       let d : List ℕ = drop verdictSize (drop w out) in
       let p : List ℕ = take w out ++ v in
       let lp : length p ≡ w + verdictSize =
-      omega (arith, length-append (take w out) v, length-take-le w out (g .room), length-verdictOf (entryAt (drop at batch) (offset + at) k n)) in
+      omega (arith, length-append (take w out) v, length-take-le w out (g .room), length-verdictOf (recordAt (drop at batch) (offset + at) k n)) in
       let o : last ≡ p ++ d = q .1 ∙ simp (e, append-assoc) in
       let ft : take (w + verdictSize) last ≡ p = ap (take (w + verdictSize)) o ∙ take-at p d (w + verdictSize) lp in
       let fd : drop (w + verdictSize) last ≡ d = ap (drop (w + verdictSize)) o ∙ drop-at p d (w + verdictSize) lp in

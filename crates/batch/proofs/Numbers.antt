@@ -1,5 +1,4 @@
 -- Laws of numbers in bytes: read and written byte by byte, in a part of a list, at most what so many bytes hold, and each the other's way back.
--- Assumes nothing.
 use Prim.Native.Nat.{ℕ, zero, suc, _+_, _-_, _*_, _/_, _%_, _^_, _≤_, _<_}
 use mathlib.Core.Path.{_≡_, refl, ap, _∙_}
 use mathlib.Core.List.{List, [], _∷_, _++_, append-assoc}
@@ -8,10 +7,10 @@ use native.Mathlib.Nat.{div-add-mod', div-lt-iff-lt-mul, pow-suc, pow-le-pow-rig
 use native.Mathlib.Numerals.{add-one}
 use lib.ListN.{length, getD, take, drop, set, length-take, length-drop}
 use lib.Seq.{take-all, take-append-le, drop-append-le, drop-cons, getD-drop, length-take-le, take-suc-set}
-use Rattle.batch.specs.Number.{toBytes, fromBytes, numberAt, Bytes}
+use Rattle.batch.specs.Number.{toBytes, fromBytes, littleAt, Bytes}
 
 -- two bytes at a place; a byte past the end counts 0
-pub two-at : (s : List ℕ) (at : ℕ) → numberAt s at 2 ≡ getD s at 0 + 256 * getD s (at + 1) 0
+pub two-at : (s : List ℕ) (at : ℕ) → littleAt s at 2 ≡ getD s at 0 + 256 * getD s (at + 1) 0
 two-at [] zero = refl
 two-at [] (suc at) = refl
 two-at (a ∷ []) zero = refl
@@ -19,7 +18,7 @@ two-at (a ∷ b ∷ s) zero = omega arith
 two-at (a ∷ s) (suc at) = rw add-one (rw add-one at (two-at s at))
 
 -- bytes that follow do not change a number
-pub number-append : (s more : List ℕ) (at k : ℕ) → at + k ≤ length s → numberAt (s ++ more) at k ≡ numberAt s at k
+pub number-append : (s more : List ℕ) (at k : ℕ) → at + k ≤ length s → littleAt (s ++ more) at k ≡ littleAt s at k
 number-append s more at k h =
     rw (drop-append-le at s more (omega arith), take-append-le k (drop at s) more (omega (arith, length-drop at s)))
 
@@ -50,7 +49,7 @@ number-low (x ∷ b) h = rw (pow-suc 256 (length b)) (omega (arith, h 0, number-
 pub number-within : (b : List ℕ) → Bytes b → (n : ℕ) → length b ≤ n → fromBytes b < 256 ^ n
 number-within b h n l = lt-of-lt-of-le (number-low b h) (pow-le-pow-right (omega arith) l)
 
-pub number-most : (b : List ℕ) → Bytes b → (at k : ℕ) → numberAt b at k < 256 ^ k
+pub number-most : (b : List ℕ) → Bytes b → (at k : ℕ) → littleAt b at k < 256 ^ k
 number-most b h at k =
     number-within (take k (drop at b)) (bytes-take (drop at b) k (bytes-drop b at h)) k (simp length-take (omega arith))
 
@@ -67,7 +66,7 @@ bytes-back (x ∷ b) h =
 pub part-long : (at k : ℕ) (b : List ℕ) → at + k ≤ length b → length (take k (drop at b)) ≡ k
 part-long at k b l = length-take-le k (drop at b) (omega (arith, length-drop at b))
 
-pub number-back : (b : List ℕ) → Bytes b → (at k : ℕ) → at + k ≤ length b → toBytes k (numberAt b at k) ≡ take k (drop at b)
+pub number-back : (b : List ℕ) → Bytes b → (at k : ℕ) → at + k ≤ length b → toBytes k (littleAt b at k) ≡ take k (drop at b)
 number-back b h at k l =
     rw (part-long at k b l) at (bytes-back (take k (drop at b)) (bytes-take (drop at b) k (bytes-drop b at h)))
 
@@ -75,7 +74,7 @@ number-back b h at k l =
 pub all-read : (b : List ℕ) → length b ≤ 8 → fromBytes (take 8 b) ≡ fromBytes b
 all-read b l = rw (take-all 8 b l)
 
-pub part-read : (b : List ℕ) (at k : ℕ) → k ≤ 8 → fromBytes (take 8 (take k (drop at b))) ≡ numberAt b at k
+pub part-read : (b : List ℕ) (at k : ℕ) → k ≤ 8 → fromBytes (take 8 (take k (drop at b))) ≡ littleAt b at k
 part-read b at k l = all-read (take k (drop at b)) (simp length-take (omega arith))
 
 -- and `write_number` fills a part

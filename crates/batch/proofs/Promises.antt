@@ -1,20 +1,18 @@
 -- What is promised of a call: it judges the first of the whole records, at least one where it can; going on gives what one call gives; and no two records share an identity.
 -- That nothing is lost in a verdict's bytes stands in Whole.antt.
--- Assumes nothing.
 use Prim.Native.Nat.{ℕ, _+_, _^_, _≤_, _<_}
 use mathlib.Core.Path.{_≡_, refl, sym, ap, _∙_}
-use mathlib.Core.Bool.{Bool, true, false}
+use mathlib.Core.Bool.{Bool, true, false, cond}
 use mathlib.Core.List.{List}
 use native.Mathlib.Omega.{arith}
 use lib.Dec.{leb, eqb}
 use lib.ListN.{length, take, drop}
 use borrow.Author.Tests.{leb-false}
-use Rattle.answer.specs.Choice.{pick}
 use Rattle.batch.specs.Head.{headOf}
 use Rattle.batch.specs.Verdict.{verdictSize, verdict}
-use Rattle.batch.specs.Records.{Entry, recordsOf, verdictOf, offsetsOf, offsetsIn, Increasing}
+use Rattle.batch.specs.Records.{RecordAt, recordsOf, verdictOf, offsetsOf, offsetsIn, Increasing}
 use Rattle.batch.specs.Walk.{stopNumber, callOf}
-use Rattle.batch.specs.Count.{Told}
+use Rattle.batch.specs.Count.{Counted}
 use Rattle.batch.specs.GoingOn.{sumOf, pauses, Call, goOn}
 use Rattle.batch.specs.declared.Head.the-variants.{Record}
 use Rattle.batch.specs.declared.Stop.{Stop}
@@ -28,11 +26,11 @@ use Rattle.batch.proofs.GoingOn.{near, far, did-on, did-all, far-on, al
 -- equal numbers mean equal stops
 stopAt : ℕ → Stop
 stopAt n =
-    pick (eqb n 0) Finished
-    (pick (eqb n 31) Budget
-    (pick (eqb n 32) Room
-    (pick (eqb n 33) Cut
-    (pick (eqb n 34) Offset Long))))
+    cond (eqb n 0) Finished
+    (cond (eqb n 31) Budget
+    (cond (eqb n 32) Room
+    (cond (eqb n 33) Cut
+    (cond (eqb n 34) Offset Long))))
 
 back : (s : Stop) → stopAt (stopNumber s) ≡ s
 unfolding stopAt
@@ -48,7 +46,7 @@ equal-stops s t e = sym (back s) ∙ ap stopAt e ∙ back t
 
 -- a call judges the first of the batch's whole records, the verdict's bytes change for each, and no others
 pub counted : (batch : List ℕ) (offset : ℕ) (out : List ℕ) (budget : ℕ) → offset + length batch < 2 ^ 64
-    → Told batch (recordsOf batch offset) out budget (callOf batch offset out budget)
+    → Counted batch (recordsOf batch offset) out budget (callOf batch offset out budget)
 counted batch offset out budget h = rw (near batch offset out budget h) (told budget batch offset out)
 
 -- with a budget of 1 or more, a whole record of legal length and room for its verdict, at least one is judged
@@ -94,7 +92,7 @@ identity cs c batch offset = go (leb (2 ^ 64) (offset + length batch)) refl
         part-rises batch offset (goOn cs c batch offset) (did-on cs c batch offset h .part) h
 
 -- a record's verdict but its offset, which stands in bytes 4 to 11, depends on its kind and value alone
-pub offset-alone : (e f : Entry) → e .kind ≡ f .kind → e .value ≡ f .value
+pub offset-alone : (e f : RecordAt) → e .kind ≡ f .kind → e .value ≡ f .value
     → (take 4 (verdictOf e) ≡ take 4 (verdictOf f)) × (drop 12 (verdictOf e) ≡ drop 12 (verdictOf f))
 unfolding verdictOf verdict
 offset-alone e f p q = (rw p, rw (p, q))

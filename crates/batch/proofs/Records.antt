@@ -1,5 +1,4 @@
 -- Laws of the whole records of a batch: they are walked head by head, lie inside it, stand at rising offsets, and go on wherever the walk is cut.
--- Assumes nothing.
 use Prim.Native.Nat.{ℕ, zero, suc, _+_, _*_, _^_, _≤_, _<_}
 use mathlib.Core.Path.{_≡_, refl, sym, ap, subst, _∙_}
 use mathlib.Core.Bool.{false}
@@ -8,10 +7,10 @@ use native.Mathlib.Omega.{arith}
 use native.Mathlib.Nat.{add-zero, add-assoc}
 use lib.ListN.{length, getD, take, drop, length-append, length-drop}
 use lib.Seq.{drop-nil, drop-drop, drop-at, length-take-le, take-append-le, drop-append-le}
-use Rattle.batch.specs.Number.{numberAt}
+use Rattle.batch.specs.Number.{littleAt}
 use Rattle.batch.specs.Head.{headOf}
 use Rattle.batch.specs.Verdict.{verdictSize, verdict}
-use Rattle.batch.specs.Records.{Entry, entryAt, entries, recordsPast, recordsOf, sizes, verdictOf, verdictsOf, offsetsOf, offsetsIn, Increasing}
+use Rattle.batch.specs.Records.{RecordAt, recordAt, recordsBy, recordsPast, recordsOf, sizes, verdictOf, verdictsOf, offsetsOf, offsetsIn, Increasing}
 use Rattle.batch.specs.declared.Head.{Head}
 use Rattle.batch.specs.declared.Head.the-variants.{End, Short, TooLong, CutShort, Record}
 use Rattle.batch.proofs.Numbers.{read-back}
@@ -30,7 +29,7 @@ unfolding recordsPast
 nothing [] o e = refl
 nothing (b ∷ s) o e = go (headOf (b ∷ s)) e
   where
-    go : (h : Head) → stands h ≡ false → entries h (b ∷ s) o (λ n. recordsPast n s (suc o)) ≡ []
+    go : (h : Head) → stands h ≡ false → recordsBy h (b ∷ s) o (λ n. recordsPast n s (suc o)) ≡ []
     go End e = refl
     go Short e = refl
     go TooLong e = refl
@@ -38,7 +37,7 @@ nothing (b ∷ s) o e = go (headOf (b ∷ s)) e
     go (Record k n) e = let z : _≡_ {A = ℕ} 0 1 = cc in absurd (omega arith)
 
 pub first : (s : List ℕ) (o k n : ℕ) → headOf s ≡ Record k n
-    → recordsOf s o ≡ entryAt s o k n ∷ recordsOf (drop (4 + n) s) (o + (4 + n))
+    → recordsOf s o ≡ recordAt s o k n ∷ recordsOf (drop (4 + n) s) (o + (4 + n))
 unfolding recordsPast
 first [] o k n e = absurd (omega (arith, whole [] k n e .fits))
 first (b ∷ s) o k n e =
@@ -47,10 +46,10 @@ first (b ∷ s) o k n e =
     rw (e, past (3 + n) s (suc o), q, r)
 
 -- the records es of a batch s at the offset o, head by head
-pub data Walks : List ℕ → ℕ → List Entry → Type 0 where
+pub data Walks : List ℕ → ℕ → List RecordAt → Type 0 where
   none : {s : List ℕ} {o : ℕ} → stands (headOf s) ≡ false → Walks s o []
-  one : {s : List ℕ} {o : ℕ} (k n : ℕ) (es : List Entry) → headOf s ≡ Record k n → Walks (drop (4 + n) s) (o + (4 + n)) es
-      → Walks s o (entryAt s o k n ∷ es)
+  one : {s : List ℕ} {o : ℕ} (k n : ℕ) (es : List RecordAt) → headOf s ≡ Record k n → Walks (drop (4 + n) s) (o + (4 + n)) es
+      → Walks s o (recordAt s o k n ∷ es)
 
 by-head : (s : List ℕ) (o : ℕ) (h : Head) → headOf s ≡ h
     → ((k n : ℕ) → h ≡ Record k n → Walks (drop (4 + n) s) (o + (4 + n)) (recordsOf (drop (4 + n) s) (o + (4 + n)))) → Walks s o (recordsOf s o)
@@ -69,18 +68,18 @@ walks-in (suc f) s o h =
 pub walks : (s : List ℕ) (o : ℕ) → Walks s o (recordsOf s o)
 walks s o = walks-in (length s) s o (omega arith)
 
-pub unique : {s : List ℕ} {o : ℕ} {es : List Entry} → Walks s o es → recordsOf s o ≡ es
+pub unique : {s : List ℕ} {o : ℕ} {es : List RecordAt} → Walks s o es → recordsOf s o ≡ es
 unique {s} {o} (none h) = nothing s o h
-unique {s} {o} (one k n es e w) = first s o k n e ∙ ap (λ (l : List Entry). entryAt s o k n ∷ l) (unique w)
+unique {s} {o} (one k n es e w) = first s o k n e ∙ ap (λ (l : List RecordAt). recordAt s o k n ∷ l) (unique w)
 
 -- a record's bytes: its head and its value
-pub size : (s : List ℕ) (o k n : ℕ) (es : List Entry) → headOf s ≡ Record k n → sizes (entryAt s o k n ∷ es) ≡ 4 + n + sizes es
+pub size : (s : List ℕ) (o k n : ℕ) (es : List RecordAt) → headOf s ≡ Record k n → sizes (recordAt s o k n ∷ es) ≡ 4 + n + sizes es
 unfolding sizes
 size s o k n es e =
     let f = whole s k n e .fits in
     rw (length-take-le n (drop 4 s) (omega (arith, length-drop 4 s)))
 
-pub inside : {s : List ℕ} {o : ℕ} {es : List Entry} → Walks s o es → (j : ℕ) → sizes (take j es) ≤ length s
+pub inside : {s : List ℕ} {o : ℕ} {es : List RecordAt} → Walks s o es → (j : ℕ) → sizes (take j es) ≤ length s
 unfolding sizes
 inside w zero = omega arith
 inside (none h) (suc j) = omega arith
@@ -88,7 +87,7 @@ inside {s} {o} (one k n es e w) (suc j) =
     omega (arith, size s o k n (take j es) e, inside w j, length-drop (4 + n) s, whole s k n e .fits)
 
 -- past the first j records the others follow
-pub rest : {s : List ℕ} {o : ℕ} {es : List Entry} → Walks s o es → (j : ℕ) → j ≤ length es
+pub rest : {s : List ℕ} {o : ℕ} {es : List RecordAt} → Walks s o es → (j : ℕ) → j ≤ length es
     → Walks (drop (sizes (take j es)) s) (o + sizes (take j es)) (drop j es)
 unfolding sizes
 rest w zero h = rw add-zero w
@@ -97,7 +96,7 @@ rest {s} {o} (one k n es e w) (suc j) h =
     rw (size s o k n (take j es) e) (simp add-assoc (simp (drop-drop, add-assoc) at (rest w j (omega arith))))
 
 -- the records of a batch stay its first where more bytes follow, and those after them start at the rest
-pub append : {s : List ℕ} {o : ℕ} {es : List Entry} → Walks s o es → (more : List ℕ) (fs : List Entry)
+pub append : {s : List ℕ} {o : ℕ} {es : List RecordAt} → Walks s o es → (more : List ℕ) (fs : List RecordAt)
     → Walks (drop (sizes es) s ++ more) (o + sizes es) fs → Walks (s ++ more) o (es ++ fs)
 unfolding sizes
 append (none h) more fs v = rw add-zero at v
@@ -105,9 +104,9 @@ append {s} {o} (one k n es e w) more fs v =
     let h = whole s k n e in
     let u : Walks (drop (4 + n + sizes es) s ++ more) (o + (4 + n + sizes es)) fs = rw (size s o k n es e) at v in
     let i = append w more fs (rw (drop-drop, add-assoc o (4 + n) (sizes es)) u) in
-    let x : entryAt (s ++ more) o k n ≡ entryAt s o k n =
+    let x : recordAt (s ++ more) o k n ≡ recordAt s o k n =
     rw (drop-append-le 4 s more (omega (arith, h .fits)), take-append-le n (drop 4 s) more (omega (arith, h .fits, length-drop 4 s))) in
-    subst (λ (a : Entry). Walks (s ++ more) o (a ∷ (es ++ fs))) x
+    subst (λ (a : RecordAt). Walks (s ++ more) o (a ∷ (es ++ fs))) x
     (one k n (es ++ fs) (whole-is (longer h more)) (rw (drop-append-le (4 + n) s more (h .fits)) i))
 
 -- numbers from lo on, each above the one before
@@ -131,7 +130,7 @@ increasing (up g r) zero (suc j) h m = at-least r j (omega arith)
 increasing (up g r) (suc i) (suc j) h m = increasing r i j (omega arith) (omega arith)
 
 -- records stand at rising offsets
-pub rising : {s : List ℕ} {o : ℕ} {es : List Entry} → Walks s o es → (j : ℕ) → Rising o (offsetsOf (take j es))
+pub rising : {s : List ℕ} {o : ℕ} {es : List RecordAt} → Walks s o es → (j : ℕ) → Rising o (offsetsOf (take j es))
 rising w zero = end
 rising (none h) (suc j) = end
 rising {s} {o} (one k n es e w) (suc j) =
@@ -139,38 +138,38 @@ rising {s} {o} (one k n es e w) (suc j) =
     up f (lower (rising w j) (suc o) (omega arith))
 
 -- the offset that a verdict holds reads back
-pub offset-at : (e : Entry) (more : List ℕ) → e .offset < 2 ^ 64 → numberAt (verdictOf e ++ more) 4 8 ≡ e .offset
+pub offset-at : (e : RecordAt) (more : List ℕ) → e .offset < 2 ^ 64 → littleAt (verdictOf e ++ more) 4 8 ≡ e .offset
 unfolding verdictOf verdict
 offset-at e more h = read-back 8 (e .offset) h
 
 -- the verdicts of the records hold their offsets
-pub offsets-read : {s : List ℕ} {o : ℕ} {es : List Entry} → Walks s o es → o + length s < 2 ^ 64 → (j : ℕ) → j ≤ length es
+pub offsets-read : {s : List ℕ} {o : ℕ} {es : List RecordAt} → Walks s o es → o + length s < 2 ^ 64 → (j : ℕ) → j ≤ length es
     → offsetsIn j (verdictsOf (take j es)) ≡ offsetsOf (take j es)
 unfolding offsetsIn verdictsOf
 offsets-read w far zero h = refl
 offsets-read (none e) far (suc j) h = absurd (omega arith)
 offsets-read {s} {o} (one k n es e w) far (suc j) h =
-    let a = entryAt s o k n in
+    let a = recordAt s o k n in
     let v = verdictsOf (take j es) in
     let i = offsets-read w (omega (arith, length-drop (4 + n) s, whole s k n e .fits)) j (omega arith) in
     rw (offset-at a v (omega arith), drop-at (verdictOf a) v verdictSize (length-verdictOf a), i)
 
-pub length-verdictsOf : (es : List Entry) → length (verdictsOf es) ≡ verdictSize * length es
+pub length-verdictsOf : (es : List RecordAt) → length (verdictsOf es) ≡ verdictSize * length es
 unfolding verdictsOf
 length-verdictsOf [] = refl
 length-verdictsOf (e ∷ es) = omega (arith, length-append (verdictOf e) (verdictsOf es), length-verdictOf e, length-verdictsOf es)
 
-pub sizes-least : (es : List Entry) → 4 * length es ≤ sizes es
+pub sizes-least : (es : List RecordAt) → 4 * length es ≤ sizes es
 unfolding sizes
 sizes-least [] = omega arith
 sizes-least (e ∷ es) = omega (arith, sizes-least es)
 
-pub sizes-append : (es fs : List Entry) → sizes (es ++ fs) ≡ sizes es + sizes fs
+pub sizes-append : (es fs : List RecordAt) → sizes (es ++ fs) ≡ sizes es + sizes fs
 unfolding sizes
 sizes-append [] fs = omega arith
 sizes-append (e ∷ es) fs = omega (arith, sizes-append es fs)
 
-pub verdictsOf-append : (es fs : List Entry) → verdictsOf (es ++ fs) ≡ verdictsOf es ++ verdictsOf fs
+pub verdictsOf-append : (es fs : List RecordAt) → verdictsOf (es ++ fs) ≡ verdictsOf es ++ verdictsOf fs
 unfolding verdictsOf
 verdictsOf-append [] fs = refl
 verdictsOf-append (e ∷ es) fs = rw (verdictsOf-append es fs) (sym (append-assoc (verdictOf e) (verdictsOf es) (verdictsOf fs)))

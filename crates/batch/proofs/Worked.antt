@@ -1,12 +1,11 @@
--- Document 01, "The batch": its example and its second verdict's bytes, and a call for each stop, computed; one theorem over all of them.
--- Assumes nothing.
+-- SCOPE, "The batch": its example and its second verdict's bytes, and a call for each stop, computed; one theorem over all of them.
 use Prim.Native.Nat.{ℕ, _-_, _^_}
 use mathlib.Core.Path.{_≡_, refl}
 use mathlib.Core.List.{List, [], _∷_, _++_, map}
 use lib.ListN.{take, drop, replicate}
 use Rattle.answer.specs.Steps.{_andThen_, _orAccept_}
 use Rattle.text.specs.Class.{classOf}
-use Rattle.text.specs.Decimal.{decimal, numberOf}
+use Rattle.text.specs.Decimal.{decimal, numberWritten}
 use Rattle.text.specs.Field.{present, firstPlace, lengthIs, wrongFrom, firstWrong}
 use Rattle.text.specs.Quote.{bytesOf}
 use Rattle.text.specs.Same.{sameText}
@@ -65,5 +64,5 @@ table =
     ∷ []
 
 pub worked : map (λ c. callOf (c .batch) (c .offset) (replicate (c .room) 9) (c .budget)) table ≡ map (λ c. c .says) table
-unfolding present classOf decimal numberOf firstPlace lengthIs wrongFrom firstWrong leadOf needed wellFormed scalarOf charOf front charsPast widths validPrefix onList sameText wellSpelt codeRule countries countryAnswer cents.parsed cents.below64 cents.digitsAt cents.numberAt cents.digits cents.whole cents.wholeNumber cents.past cents.fraction cents.worth cents.cents cents.parts cents.parseAmountCents admission ruleOf checkField _andThen_ _orAccept_ headOf answerBytes verdict verdictOf nextOf walk callOf
+unfolding present classOf decimal numberWritten firstPlace lengthIs wrongFrom firstWrong leadOf needed wellFormed scalarOf charOf front charsPast widths validPrefix onList sameText wellSpelt codeRule countries countryAnswer cents.parsed cents.below64 cents.digitsAt cents.numberBetween cents.digits cents.whole cents.wholeNumber cents.past cents.fraction cents.worth cents.cents cents.parts cents.parseAmountCents admission ruleOf checkField _andThen_ _orAccept_ headOf answerBytes verdict verdictOf nextOf walk callOf
 worked = refl

@@ -1,12 +1,11 @@
--- Document 01, "How tightly it is tied": a call's count "is that of whole records walked by definition, with 24 bytes changed for each and no others".
--- Assumes nothing.
+-- SCOPE, "How tightly it is tied": a call's count "is that of whole records walked by definition, with 24 bytes changed for each and no others".
 use Prim.Native.Nat.{ℕ, _+_, _*_, _≤_, _<_}
 use mathlib.Core.Path.{_≡_}
 use mathlib.Core.List.{List, _++_}
 use lib.ListN.{length, take, drop}
 use Rattle.batch.specs.Head.{headOf}
 use Rattle.batch.specs.Verdict.{verdictSize}
-use Rattle.batch.specs.Records.{Entry, sizes, verdictsOf}
+use Rattle.batch.specs.Records.{RecordAt, sizes, verdictsOf}
 use Rattle.batch.specs.Walk.{Outcome}
 use Rattle.batch.specs.declared.Head.{Head}
 use Rattle.batch.specs.declared.Head.the-variants.{End, Short, TooLong, CutShort, Record}
@@ -31,7 +30,7 @@ Why Offset j n budget w out h = ⊥
 Why Long j n budget w out h = (j ≡ n) × (endOf h ≡ Long)
 
 -- what a call r did of a batch whose whole records these are, into an output out
-pub record Told (batch : List ℕ) (records : List Entry) (out : List ℕ) (budget : ℕ) (r : Outcome) : Type 0 where
+pub record Counted (batch : List ℕ) (records : List RecordAt) (out : List ℕ) (budget : ℕ) (r : Outcome) : Type 0 where
   pub most : r .judged ≤ length records
   pub within : r .judged ≤ budget
   pub written : r .written ≡ verdictSize * r .judged

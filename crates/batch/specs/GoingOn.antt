@@ -1,10 +1,8 @@
--- Document 01, "The batch": "Going on from bytes read after each 31 or 32, with the offset moved by as much, until another stop".
--- Assumes nothing.
+-- SCOPE, "The batch": "Going on from bytes read after each 31 or 32, with the offset moved by as much, until another stop".
 use Prim.Native.Nat.{ℕ, _+_}
 use mathlib.Core.List.{List, [], _∷_, _++_}
-use mathlib.Core.Bool.{Bool, true, false}
+use mathlib.Core.Bool.{Bool, true, false, cond}
 use lib.ListN.{length, take, drop}
-use Rattle.answer.specs.Choice.{pick}
 use Rattle.batch.specs.Head.{headOf}
 use Rattle.batch.specs.Records.{recordsOf, sizes, verdictsOf}
 use Rattle.batch.specs.Count.{endOf}
@@ -50,4 +48,4 @@ unfoldable pub goOn : List Call → Call → List ℕ → ℕ → Sum
 goOn [] c batch offset = sumOf (callOf batch offset (c .out) (c .budget))
 goOn (d ∷ cs) c batch offset =
     let r = callOf batch offset (c .out) (c .budget) in
-    pick (pauses (r .stop)) (plus (sumOf r) (goOn cs d (drop (r .read) batch) (offset + r .read))) (sumOf r)
+    cond (pauses (r .stop)) (plus (sumOf r) (goOn cs d (drop (r .read) batch) (offset + r .read))) (sumOf r)

@@ -1,5 +1,4 @@
--- Document 01, "The batch": the numbers of records and verdicts are "all little-endian", the lowest byte first.
--- Assumes nothing.
+-- SCOPE, "The batch": the numbers of records and verdicts are "all little-endian", the lowest byte first.
 use Prim.Native.Nat.{ℕ, zero, suc, _+_, _*_, _/_, _%_, _<_}
 use mathlib.Core.List.{List, [], _∷_}
 use lib.ListN.{getD, take, drop}
@@ -15,8 +14,8 @@ fromBytes [] = 0
 fromBytes (b ∷ s) = b + 256 * fromBytes s
 
 -- the number that k bytes at a place write
-abbrev pub numberAt : List ℕ → ℕ → ℕ → ℕ
-numberAt s at k = fromBytes (take k (drop at s))
+abbrev pub littleAt : List ℕ → ℕ → ℕ → ℕ
+littleAt s at k = fromBytes (take k (drop at s))
 
 -- every element is a byte
 abbrev pub Bytes : List ℕ → Type 0

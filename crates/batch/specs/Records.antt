@@ -1,63 +1,62 @@
--- Document 01, "The batch": the whole records at the start of a batch, each with its place in the stream, and what they yield.
--- Assumes nothing.
+-- SCOPE, "The batch": the whole records at the start of a batch, each with its place in the stream, and what they yield.
 use Prim.Native.Nat.{ℕ, zero, suc, _+_, _<_}
 use mathlib.Core.List.{List, [], _∷_, _++_, map}
 use lib.ListN.{length, getD, take, drop}
 use Rattle.field.specs.Field.{checkField}
-use Rattle.batch.specs.Number.{numberAt}
+use Rattle.batch.specs.Number.{littleAt}
 use Rattle.batch.specs.Head.{headOf}
 use Rattle.batch.specs.Verdict.{verdict, verdictSize}
 use Rattle.batch.specs.declared.Head.{Head}
 use Rattle.batch.specs.declared.Head.the-variants.{End, Short, TooLong, CutShort, Record}
 
 -- a record: the stream offset of its first byte, its kind and its value
-pub record Entry : Type 0 where
+pub record RecordAt : Type 0 where
   pub offset : ℕ
   pub kind : ℕ
   pub value : List ℕ
 
 -- the record at the start of a batch, by what its head says
-abbrev pub entryAt : List ℕ → ℕ → ℕ → ℕ → Entry
-entryAt batch offset k n = record { offset = offset; kind = k; value = take n (drop 4 batch) }
+abbrev pub recordAt : List ℕ → ℕ → ℕ → ℕ → RecordAt
+recordAt batch offset k n = record { offset = offset; kind = k; value = take n (drop 4 batch) }
 
 -- a whole record, and then those past its bytes, of which one is passed already; any other head ends them
-abbrev pub entries : Head → List ℕ → ℕ → (ℕ → List Entry) → List Entry
-entries End batch offset rest = []
-entries Short batch offset rest = []
-entries TooLong batch offset rest = []
-entries CutShort batch offset rest = []
-entries (Record k n) batch offset rest = entryAt batch offset k n ∷ rest (3 + n)
+abbrev pub recordsBy : Head → List ℕ → ℕ → (ℕ → List RecordAt) → List RecordAt
+recordsBy End batch offset rest = []
+recordsBy Short batch offset rest = []
+recordsBy TooLong batch offset rest = []
+recordsBy CutShort batch offset rest = []
+recordsBy (Record k n) batch offset rest = recordAt batch offset k n ∷ rest (3 + n)
 
 -- the records of a batch past its first n bytes
-unfoldable pub recordsPast : ℕ → List ℕ → ℕ → List Entry
+unfoldable pub recordsPast : ℕ → List ℕ → ℕ → List RecordAt
 recordsPast n [] offset = []
-recordsPast zero (b ∷ s) offset = entries (headOf (b ∷ s)) (b ∷ s) offset (λ n. recordsPast n s (suc offset))
+recordsPast zero (b ∷ s) offset = recordsBy (headOf (b ∷ s)) (b ∷ s) offset (λ n. recordsPast n s (suc offset))
 recordsPast (suc n) (b ∷ s) offset = recordsPast n s (suc offset)
 
 -- the whole records of a batch whose first byte has this stream offset, up to the first place where none stands
-abbrev pub recordsOf : List ℕ → ℕ → List Entry
+abbrev pub recordsOf : List ℕ → ℕ → List RecordAt
 recordsOf batch offset = recordsPast 0 batch offset
 
 -- how many bytes records take
-unfoldable pub sizes : List Entry → ℕ
+unfoldable pub sizes : List RecordAt → ℕ
 sizes [] = 0
 sizes (e ∷ es) = 4 + length (e .value) + sizes es
 
 -- what a record yields: the verdict of its rule on its value
-unfoldable pub verdictOf : Entry → List ℕ
+unfoldable pub verdictOf : RecordAt → List ℕ
 verdictOf e = verdict (e .kind) (e .offset) (checkField (e .kind) (e .value))
 
-unfoldable pub verdictsOf : List Entry → List ℕ
+unfoldable pub verdictsOf : List RecordAt → List ℕ
 verdictsOf [] = []
 verdictsOf (e ∷ es) = verdictOf e ++ verdictsOf es
 
 -- the stream offsets of records, and those written in their verdicts
-abbrev pub offsetsOf : List Entry → List ℕ
+abbrev pub offsetsOf : List RecordAt → List ℕ
 offsetsOf es = map (λ e. e .offset) es
 
 unfoldable pub offsetsIn : ℕ → List ℕ → List ℕ
 offsetsIn zero v = []
-offsetsIn (suc k) v = numberAt v 4 8 ∷ offsetsIn k (drop verdictSize v)
+offsetsIn (suc k) v = littleAt v 4 8 ∷ offsetsIn k (drop verdictSize v)
 
 -- each number is below every later one
 abbrev pub Increasing : List ℕ → Type 0

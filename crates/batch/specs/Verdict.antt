@@ -1,5 +1,4 @@
--- Document 01, "The batch": the bytes that a record yields, "length 20 and the kind, two bytes each; the record's stream offset, eight; the answer, one; zero, one; place, two; number, eight; all little-endian".
--- Assumes nothing.
+-- SCOPE, "The batch": the bytes that a record yields, "length 20 and the kind, two bytes each; the record's stream offset, eight; the answer, one; zero, one; place, two; number, eight; all little-endian".
 use Prim.Native.Nat.{ℕ, _-_}
 use mathlib.Core.List.{List, _∷_, _++_}
 use Rattle.answer.specs.Table.{numberOf, placeOf, valueOf}

@@ -1,19 +1,18 @@
--- Document 01, "The batch": a call "takes the batch, the stream offset of its first byte, the output and a budget of records, and answers why it stopped, records judged, bytes read, bytes written".
--- Assumes nothing.
+-- SCOPE, "The batch": a call "takes the batch, the stream offset of its first byte, the output and a budget of records, and answers why it stopped, records judged, bytes read, bytes written".
 use Prim.Native.Nat.{ℕ, zero, suc, _+_, _^_}
 use mathlib.Core.List.{List, _++_}
 use lib.Dec.{ltb, leb, eqb}
 use lib.ListN.{length, drop}
-use Rattle.answer.specs.Choice.{pick}
+use mathlib.Core.Bool.{cond}
 use Rattle.batch.specs.Head.{headOf}
 use Rattle.batch.specs.Verdict.{verdictSize}
-use Rattle.batch.specs.Records.{entryAt, verdictOf}
+use Rattle.batch.specs.Records.{recordAt, verdictOf}
 use Rattle.batch.specs.declared.Head.{Head}
 use Rattle.batch.specs.declared.Head.the-variants.{End, Short, TooLong, CutShort, Record}
 use Rattle.batch.specs.declared.Stop.{Stop}
 use Rattle.batch.specs.declared.Stop.the-variants.{Finished, Budget, Room, Cut, Offset, Long}
-use Rattle.batch.specs.declared.Turn.{Turn}
-use Rattle.batch.specs.declared.Turn.the-variants.{Stops, Judges}
+use Rattle.batch.specs.declared.Act.{Act}
+use Rattle.batch.specs.declared.Act.the-variants.{Stops, Judges}
 use Rattle.batch.specs.declared.Ran.{Ran}
 
 -- the numbers of the stops
@@ -26,17 +25,17 @@ stopNumber Offset = 34  -- offset plus batch length is 2^64 or more
 stopNumber Long = 35  -- length above the head limit
 
 -- with the budget spent 31 comes first
-abbrev pub unlessSpent : ℕ → Turn → Turn
-unlessSpent budget t = pick (eqb budget 0) (Stops Budget) t
+abbrev pub unlessSpent : ℕ → Act → Act
+unlessSpent budget t = cond (eqb budget 0) (Stops Budget) t
 
 -- before each record: no bytes left, 0; budget spent, 31; fewer than 4 bytes, 33; length above the limit, 35; value cut short, 33;
 -- no room for a verdict, 32; else it is judged
-unfoldable pub nextOf : Head → ℕ → ℕ → Turn
+unfoldable pub nextOf : Head → ℕ → ℕ → Act
 nextOf End room budget = Stops Finished
 nextOf Short room budget = unlessSpent budget (Stops Cut)
 nextOf TooLong room budget = unlessSpent budget (Stops Long)
 nextOf CutShort room budget = unlessSpent budget (Stops Cut)
-nextOf (Record k n) room budget = unlessSpent budget (pick (ltb room verdictSize) (Stops Room) (Judges k n))
+nextOf (Record k n) room budget = unlessSpent budget (cond (ltb room verdictSize) (Stops Room) (Judges k n))
 
 -- what a call answers, and what its output then holds
 pub record Outcome : Type 0 where
@@ -54,10 +53,10 @@ abbrev pub ahead : ℕ → ℕ → ℕ → List ℕ → Outcome → Outcome
 ahead j n w v r = record { stop = r .stop; judged = j + r .judged; read = n + r .read; written = w + r .written; out = v ++ r .out }
 
 -- one record, and then `more` on what is left of the batch and of the output
-abbrev pub after : Turn → (List ℕ → ℕ → List ℕ → Outcome) → List ℕ → ℕ → List ℕ → Outcome
+abbrev pub after : Act → (List ℕ → ℕ → List ℕ → Outcome) → List ℕ → ℕ → List ℕ → Outcome
 after (Stops s) more batch offset out = stopped s out
 after (Judges k n) more batch offset out =
-    ahead 1 (4 + n) verdictSize (verdictOf (entryAt batch offset k n)) (more (drop (4 + n) batch) (offset + (4 + n)) (drop verdictSize out))
+    ahead 1 (4 + n) verdictSize (verdictOf (recordAt batch offset k n)) (more (drop (4 + n) batch) (offset + (4 + n)) (drop verdictSize out))
 
 -- the walk, by the budget; with none left it never goes on
 unfoldable pub walk : ℕ → List ℕ → ℕ → List ℕ → Outcome
@@ -66,13 +65,13 @@ walk (suc k) batch offset out = after (nextOf (headOf batch) (length out) (suc k
 
 -- "If offset plus batch length is 2^64 or more: 34, nothing written, all counts 0."
 unfoldable pub callOf : List ℕ → ℕ → List ℕ → ℕ → Outcome
-callOf batch offset out budget = pick (leb (2 ^ 64) (offset + length batch)) (stopped Offset out) (walk budget batch offset out)
+callOf batch offset out budget = cond (leb (2 ^ 64) (offset + length batch)) (stopped Offset out) (walk budget batch offset out)
 
 -- what the output holds after one turn
-abbrev pub turnOut : Turn → List ℕ → ℕ → List ℕ → List ℕ
-turnOut (Stops s) batch offset out = out
-turnOut (Judges k n) batch offset out = verdictOf (entryAt batch offset k n) ++ drop verdictSize out
+abbrev pub actOut : Act → List ℕ → ℕ → List ℕ → List ℕ
+actOut (Stops s) batch offset out = out
+actOut (Judges k n) batch offset out = verdictOf (recordAt batch offset k n) ++ drop verdictSize out
 
 -- an answer of the code, with the output
-abbrev pub seen : Ran → List ℕ → Outcome
-seen r out = record { stop = r .stop; judged = r .judged; read = r .read; written = r .written; out = out }
+abbrev pub outcomeOf : Ran → List ℕ → Outcome
+outcomeOf r out = record { stop = r .stop; judged = r .judged; read = r .read; written = r .written; out = out }

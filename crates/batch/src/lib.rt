@@ -3,10 +3,10 @@ ghost use mathlib.Core.Path.{_≡_};
 ghost use mathlib.Core.List.{_++_};
 ghost use Prim.Native.Nat.{_+_, _-_, _≤_};
 ghost use lib.ListN.{length, take, drop};
-ghost use Rattle.batch.specs.Number.{toBytes, fromBytes, numberAt};
+ghost use Rattle.batch.specs.Number.{toBytes, fromBytes, littleAt};
 ghost use Rattle.batch.specs.Head.{headOf};
 ghost use Rattle.batch.specs.Verdict.{verdictSize, answerBytes, verdict};
-ghost use Rattle.batch.specs.Walk.{stopNumber, unlessSpent, nextOf, turnOut, seen, callOf};
+ghost use Rattle.batch.specs.Walk.{stopNumber, unlessSpent, nextOf, actOut, outcomeOf, callOf};
 use answer::Answer;
 
 // The longest value that a head may announce.
@@ -36,7 +36,7 @@ pub enum Stop {
 }
 
 impl Stop {
-    // Document 01's number of a stop.
+    // SCOPE's number of a stop.
     pub fn number(self) -> u8
         ensures { λ r. ⌜ r ≡ stopNumber self ⌝ }
     {
@@ -52,7 +52,7 @@ impl Stop {
 }
 
 // What a call does next: it stops, or judges the record that stands there.
-pub enum Turn {
+pub enum Act {
     Stops(Stop),
     Judges { kind: u16, length: usize },
 }
@@ -67,7 +67,7 @@ pub struct Ran {
 // Two bytes at a place.
 fn pair_at(s: &[u8], at: usize) -> u16
     requires { ⌜ at + 2 ≤ length (now s) ⌝ }
-    ensures { λ r. ⌜ r ≡ numberAt (now (s .entry)) at 2 ⌝ }
+    ensures { λ r. ⌜ r ≡ littleAt (now (s .entry)) at 2 ⌝ }
 {
     (s[at] as u16) + 256 * (s[at + 1] as u16)
 }
@@ -125,31 +125,31 @@ pub fn read_head(rest: &[u8]) -> Head
 }
 
 // With the budget spent 31 comes before any stop but 0.
-fn unless_spent(budget: u64, why: Stop) -> Turn
-    ensures { λ r. ⌜ r ≡ unlessSpent budget (Turn.Stops why) ⌝ }
+fn unless_spent(budget: u64, why: Stop) -> Act
+    ensures { λ r. ⌜ r ≡ unlessSpent budget (Act.Stops why) ⌝ }
 {
     if budget == 0 {
-        return Turn::Stops(Stop::Budget);
+        return Act::Stops(Stop::Budget);
     }
-    Turn::Stops(why)
+    Act::Stops(why)
 }
 
-pub fn next(head: Head, room: usize, budget: u64) -> Turn
+pub fn next(head: Head, room: usize, budget: u64) -> Act
     ensures { λ r. ⌜ r ≡ nextOf head room budget ⌝ }
 {
     match head {
-        Head::End => Turn::Stops(Stop::Finished),
+        Head::End => Act::Stops(Stop::Finished),
         Head::Short => unless_spent(budget, Stop::Cut),
         Head::TooLong => unless_spent(budget, Stop::Long),
         Head::CutShort => unless_spent(budget, Stop::Cut),
         Head::Record { kind, length } => {
             if budget == 0 {
-                return Turn::Stops(Stop::Budget);
+                return Act::Stops(Stop::Budget);
             }
             if room < VERDICT_SIZE {
-                return Turn::Stops(Stop::Room);
+                return Act::Stops(Stop::Room);
             }
-            Turn::Judges { kind, length }
+            Act::Judges { kind, length }
         }
     }
 }
@@ -243,25 +243,25 @@ fn write_verdict(out: &mut [u8], kind: u16, offset: u64, a: Answer)
 }
 
 // One turn: the record at `at` is judged, and its verdict written from `w` on; or nothing is written.
-fn judge_next(batch: &[u8], at: usize, offset: u64, out: &mut [u8], w: usize, budget: u64) -> Turn
+fn judge_next(batch: &[u8], at: usize, offset: u64, out: &mut [u8], w: usize, budget: u64) -> Act
     requires { ⌜ at ≤ length (now batch) ⌝ }
     requires { ⌜ w ≤ length (now out) ⌝ }
     ensures { λ r. ⌜ r ≡ nextOf (headOf (drop at (now (batch .entry)))) (length (now (out .entry)) - w) budget ⌝ }
-    ensures { λ r. ⌜ now (out .exit) ≡ take w (now (out .entry)) ++ turnOut r (drop at (now (batch .entry))) offset (drop w (now (out .entry))) ⌝ }
+    ensures { λ r. ⌜ now (out .exit) ≡ take w (now (out .entry)) ++ actOut r (drop at (now (batch .entry))) offset (drop w (now (out .entry))) ⌝ }
 {
     match next(read_head(&batch[at..]), out.len() - w, budget) {
-        Turn::Stops(why) => Turn::Stops(why),
-        Turn::Judges { kind, length } => {
+        Act::Stops(why) => Act::Stops(why),
+        Act::Judges { kind, length } => {
             let from = at + 4;
             let a = field::check_field(kind, &batch[from..from + length]);
             write_verdict(&mut out[w..], kind, offset, a);
-            Turn::Judges { kind, length }
+            Act::Judges { kind, length }
         }
     }
 }
 
 pub fn run(batch: &[u8], offset: u64, out: &mut [u8], budget: u64) -> Ran
-    ensures { λ r. ⌜ seen r (now (out .exit)) ≡ callOf (now (batch .entry)) offset (now (out .entry)) budget ⌝ }
+    ensures { λ r. ⌜ outcomeOf r (now (out .exit)) ≡ callOf (now (batch .entry)) offset (now (out .entry)) budget ⌝ }
     ensures { λ r. ⌜ (r .read ≤ length (now (batch .entry))) × (r .written ≤ length (now (out .exit))) ⌝ }
 {
     if 18446744073709551615 - (batch.len() as u64) < offset {
@@ -277,7 +277,7 @@ pub fn run(batch: &[u8], offset: u64, out: &mut [u8], budget: u64) -> Ran
     let mut w: usize = 0;
     loop {
         match judge_next(batch, at, offset + at as u64, out, w, budget - judged) {
-            Turn::Stops(why) => {
+            Act::Stops(why) => {
                 return Ran {
                     stop: why,
                     judged: judged,
@@ -285,7 +285,7 @@ pub fn run(batch: &[u8], offset: u64, out: &mut [u8], budget: u64) -> Ran
                     written: w,
                 };
             }
-            Turn::Judges { kind: _, length } => {
+            Act::Judges { kind: _, length } => {
                 judged = judged + 1;
                 at = at + (4 + length);
                 w = w + VERDICT_SIZE;

@@ -1,5 +1,4 @@
 -- A BIC that is accepted is ASCII.
--- Assumes nothing.
 use Prim.Native.Nat.{ℕ}
 use mathlib.Core.Path.{_≡_}
 use mathlib.Core.List.{List}

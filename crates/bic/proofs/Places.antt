@@ -1,5 +1,4 @@
 -- What the rule of a BIC says fits a verdict.
--- Assumes nothing.
 use Prim.Native.Nat.{ℕ}
 use mathlib.Core.List.{List}
 use Rattle.text.proofs.Near.{Small, Short, nears}

@@ -1,5 +1,4 @@
 -- Worked examples: codes with and without a branch, and a refusal by each step, one theorem.
--- Assumes nothing.
 use mathlib.Core.Path.{_≡_, refl}
 use mathlib.Core.List.{List, [], _∷_, map}
 use Prim.Native.String.{String}

@@ -1,7 +1,6 @@
 -- Laws of the expansion and of its number, once over the length: texts in two parts, and one character more.
--- Assumes nothing.
 use mathlib.Core.Path.{_≡_, refl, sym, _∙_, ap}
-use mathlib.Core.Bool.{Bool, true, false}
+use mathlib.Core.Bool.{Bool, true, false, cond}
 use mathlib.Core.List.{List, [], _∷_, _++_, append-assoc, append-nil}
 use Prim.Native.Nat.{ℕ, _+_, _-_, _*_, _/_, _%_, _^_, _<_, _≤_}
 use native.Mathlib.Nat.{zero-add, zero-mul}
@@ -10,13 +9,12 @@ use native.Mathlib.Omega.{arith}
 use lib.Pow.{pow-add}
 use lib.ListN.{length, take, getD, length-append}
 use lib.Seq.{take-suc}
-use Rattle.answer.specs.Choice.{pick}
 use Rattle.text.specs.Class.{isDigit}
 use Rattle.text.specs.Decimal.{decimal}
 use Rattle.text.proofs.Decimals.{decimal-append}
 use Rattle.checkdigit.specs.Sum.{
-  valueOf,
-  digitsOf,
+  characterValue,
+  characterDigits,
   expand,
   number,
   remainderOf,
@@ -28,37 +26,37 @@ use Rattle.checkdigit.proofs.Mod.{mod-step}
 expand-append : (s t : List ℕ) → expand (s ++ t) ≡ expand s ++ expand t
 unfolding expand
 expand-append [] t = refl
-expand-append (b ∷ s) t = rw (expand-append s t) (sym (append-assoc (digitsOf b) (expand s) (expand t)))
+expand-append (b ∷ s) t = rw (expand-append s t) (sym (append-assoc (characterDigits b) (expand s) (expand t)))
 
 -- how many digits a text and a character are written with
 abbrev pub width : List ℕ → ℕ
 width t = length (expand t)
 
 abbrev pub count : ℕ → ℕ
-count b = length (digitsOf b)
+count b = length (characterDigits b)
 
 -- the digits of a value v, one where the test holds and else two
 abbrev written : Bool → ℕ → List ℕ
-written t v = pick t (v ∷ []) (v / 10 ∷ v % 10 ∷ [])
+written t v = cond t (v ∷ []) (v / 10 ∷ v % 10 ∷ [])
 
 value-written : (t : Bool) (v : ℕ) → decimal (written t v) ≡ v
 unfolding decimal
 value-written true v = omega arith
 value-written false v = omega arith
 
-count-written : (t : Bool) (v : ℕ) → length (written t v) ≡ pick t 1 2
+count-written : (t : Bool) (v : ℕ) → length (written t v) ≡ cond t 1 2
 count-written true v = refl
 count-written false v = refl
 
-char-value : (b : ℕ) → decimal (digitsOf b) ≡ valueOf b
-unfolding digitsOf
-char-value b = value-written (isDigit b) (valueOf b)
+char-value : (b : ℕ) → decimal (characterDigits b) ≡ characterValue b
+unfolding characterDigits
+char-value b = value-written (isDigit b) (characterValue b)
 
-pub char-count : (b : ℕ) → count b ≡ pick (isDigit b) 1 2
-unfolding digitsOf
-char-count b = count-written (isDigit b) (valueOf b)
+pub char-count : (b : ℕ) → count b ≡ cond (isDigit b) 1 2
+unfolding characterDigits
+char-count b = count-written (isDigit b) (characterValue b)
 
-one-or-two : (t : Bool) → (1 ≤ pick t 1 2) × (pick t 1 2 ≤ 2)
+one-or-two : (t : Bool) → (1 ≤ cond t 1 2) × (cond t 1 2 ≤ 2)
 one-or-two true = (omega arith, omega arith)
 one-or-two false = (omega arith, omega arith)
 
@@ -80,7 +78,7 @@ width-most (b ∷ t) = rw (width-cons b t) (omega (arith, width-most t, count-en
 pub number-append : (s t : List ℕ) → number (s ++ t) ≡ number s * 10 ^ width t + number t
 number-append s t = simp (expand-append, decimal-append)
 
-pub number-cons : (b : ℕ) (t : List ℕ) → number (b ∷ t) ≡ valueOf b * 10 ^ width t + number t
+pub number-cons : (b : ℕ) (t : List ℕ) → number (b ∷ t) ≡ characterValue b * 10 ^ width t + number t
 unfolding expand
 number-cons b t = simp (decimal-append, char-value)
 
@@ -115,7 +113,7 @@ more r t i x n h p q =
     ∙ continued-append r (take i t) (b ∷ [])
     ∙ ap (continued r) (sym (take-suc t i 0 h) ∙ ap (λ (m : ℕ). take m t) (sym (add-one i)))
 
-pub after-one : (n b : ℕ) → n * 10 ^ count b + valueOf b ≡ numberAfter n (b ∷ [])
+pub after-one : (n b : ℕ) → n * 10 ^ count b + characterValue b ≡ numberAfter n (b ∷ [])
 unfolding numberAfter expand
 after-one n b = simp (append-nil, char-value)
 

@@ -1,6 +1,5 @@
 -- Errors that the remainder catches, once over the place and the length, as facts of Place: one character replaced by a kin, two kin
 -- exchanged.
--- Assumes nothing.
 use mathlib.Core.Path.{_≡_, sym, _∙_, ap}
 use mathlib.Core.Logic.{_≢_}
 use mathlib.Core.List.{List, [], _∷_, _++_}
@@ -11,25 +10,25 @@ use native.Mathlib.Decide.{decLt}
 use lib.Pow.{pow-add}
 use lib.ListN.{length, take, drop, set, getD, length-append}
 use lib.Seq.{split-at, set-split, set-getD, set-comm}
-use Rattle.checkdigit.specs.Sum.{valueOf, number, remainderOf, exchanged}
+use Rattle.checkdigit.specs.Sum.{characterValue, number, remainderOf, exchanged}
 use Rattle.checkdigit.proofs.Digits.{width, count, number-append, number-cons, width-append, width-cons, width-most, count-ends}
 use Rattle.checkdigit.proofs.Letters.{Kin}
 use Rattle.checkdigit.proofs.Place.{place, swap}
 
 -- one place
-one : (p s : List ℕ) (a : ℕ) → number (p ++ a ∷ s) ≡ valueOf a * 10 ^ width s + (number s + number p * 10 ^ (count a + width s))
+one : (p s : List ℕ) (a : ℕ) → number (p ++ a ∷ s) ≡ characterValue a * 10 ^ width s + (number s + number p * 10 ^ (count a + width s))
 one p s a = rw (number-append p (a ∷ s), number-cons, width-cons) (omega arith)
 
 replaced : (p s : List ℕ) (a b : ℕ) → Kin a b → remainderOf (p ++ a ∷ s) ≢ remainderOf (p ++ b ∷ s)
 unfolding remainderOf
 replaced p s a b k e =
     k .apart
-    (place (width s) (valueOf a) (valueOf b) (number s + number p * 10 ^ (count b + width s)) (k .low) (k .low′)
+    (place (width s) (characterValue a) (characterValue b) (number s + number p * 10 ^ (count b + width s)) (k .low) (k .low′)
     (rw (one p s a, one p s b, k .digits) at e))
 
 -- two places
 two : (p m s : List ℕ) (a b : ℕ) → number (p ++ (a ∷ (m ++ (b ∷ s))))
-    ≡ (valueOf a * 10 ^ (width m + count b) + valueOf b) * 10 ^ width s
+    ≡ (characterValue a * 10 ^ (width m + count b) + characterValue b) * 10 ^ width s
     + (number s + number m * 10 ^ (count b + width s) + number p * 10 ^ (count a + (width m + (count b + width s))))
 two p m s a b =
     rw (
@@ -51,7 +50,7 @@ swapped : (p m s : List ℕ) (a b : ℕ) → Kin a b → width m + count b ≤ 9
 unfolding remainderOf
 swapped p m s a b k w e =
     k .apart
-    (swap (width m + count b) (width s) (valueOf a) (valueOf b)
+    (swap (width m + count b) (width s) (characterValue a) (characterValue b)
     (number s + number m * 10 ^ (count b + width s) + number p * 10 ^ (count b + (width m + (count b + width s))))
     (omega (arith, count-ends b .0)) w (k .low) (k .low′)
     (rw (two p m s a b, two p m s b a, k .digits) at e))
@@ -106,4 +105,4 @@ exchanged-at t i j h l w k e = by (decLt i j) (decLt j i)
     by (yes q) _ = exchanged-lt t i j q l w k e
     by (no q) (yes r) =
         exchanged-lt t j i r h w (kin-sym k) (ap remainderOf (set-comm t j i (getD t i 0) (getD t j 0) (λ (p : j ≡ i). omega arith)) ∙ e)
-    by (no q) (no r) = k .apart (ap (λ (m : ℕ). valueOf (getD t m 0)) (omega arith))
+    by (no q) (no r) = k .apart (ap (λ (m : ℕ). characterValue (getD t m 0)) (omega arith))

@@ -1,5 +1,4 @@
 -- The sum and its errors for an IBAN, whose first four characters stand at the end: a place of the text is a place of the rearranged text.
--- Assumes nothing.
 use mathlib.Core.Path.{_≡_, refl, sym, _∙_, ap}
 use mathlib.Core.Logic.{_≢_}
 use mathlib.Core.List.{List, [], _∷_, _++_}

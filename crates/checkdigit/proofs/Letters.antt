@@ -1,20 +1,18 @@
 -- All that the proofs use of a letter's value and of a slip: a letter's value is small, tells letters apart, and so a slip changes the value
 -- of a character and not the count of its digits.
--- Assumes nothing.
 use mathlib.Core.Path.{_≡_}
-use mathlib.Core.Bool.{Bool, true, false}
+use mathlib.Core.Bool.{Bool, true, false, _&&_, cond}
 use mathlib.Core.List.{[], _∷_}
 use mathlib.Core.Logic.{_≢_, ⊎-elim}
 use Prim.Native.Nat.{ℕ, _+_, _*_, _^_, _<_}
 use native.Mathlib.Omega.{arith}
 use lib.Dec.{T}
-use Rattle.answer.specs.Choice.{both, pick}
 use Rattle.text.specs.Class.{isDigit, isLetter}
 use Rattle.text.specs.Decimal.{digitOf}
 use Rattle.text.proofs.Ranges.{both-parts, either-parts}
 use Rattle.text.proofs.Classes.{is-digit, above-digits, digit-ends, letter-ends}
 use Rattle.checkdigit.specs.Letter.{letterValue, Slip}
-use Rattle.checkdigit.specs.Sum.{valueOf, numberAfter}
+use Rattle.checkdigit.specs.Sum.{characterValue, numberAfter}
 use Rattle.checkdigit.proofs.Digits.{count, char-count, after-one}
 
 byte-value : (b : ℕ) → b < 256 → letterValue b < 256
@@ -23,18 +21,18 @@ byte-value b h = omega arith
 
 -- a byte's digits after a number's
 module _ (b : ℕ) (byte : b < 256) where
-  value-most : valueOf b < 256
-  unfolding valueOf
+  value-most : characterValue b < 256
+  unfolding characterValue
   value-most = go (isDigit b)
     where
-      go : (d : Bool) → pick d (digitOf b) (letterValue b) < 256
+      go : (d : Bool) → cond d (digitOf b) (letterValue b) < 256
       go true = omega arith
       go false = byte-value b byte
 
   pub after-most : (n : ℕ) → numberAfter n (b ∷ []) < n * 100 + 256
   after-most n = rw (← after-one n b, char-count b) (go (isDigit b))
     where
-      go : (d : Bool) → n * 10 ^ pick d 1 2 + valueOf b < n * 100 + 256
+      go : (d : Bool) → n * 10 ^ cond d 1 2 + characterValue b < n * 100 + 256
       go true = omega (arith, value-most)
       go false = omega (arith, value-most)
 
@@ -49,12 +47,12 @@ letter-tells a b s t e = let p = letter-ends a s in let q = letter-ends b t in o
 -- two characters written with as many digits, whose values are different remainders
 pub record Kin (a b : ℕ) : Type 0 where
   pub digits : count a ≡ count b
-  pub low : valueOf a < 97
-  pub low′ : valueOf b < 97
-  pub apart : valueOf a ≢ valueOf b
+  pub low : characterValue a < 97
+  pub low′ : characterValue b < 97
+  pub apart : characterValue a ≢ characterValue b
 
 kin-digits : (a b : ℕ) → T (isDigit a) → T (isDigit b) → a ≢ b → Kin a b
-unfolding valueOf
+unfolding characterValue
 kin-digits a b s t n =
     let h = digit-ends a s in
     let k = digit-ends b t in
@@ -63,7 +61,7 @@ kin-digits a b s t n =
     record { digits = rw (char-count a, char-count b, p, q); low = rw p (omega arith); low′ = rw q (omega arith); apart = rw (p, q) (λ e. n (omega arith)) }
 
 kin-letters : (a b : ℕ) → T (isLetter a) → T (isLetter b) → a ≢ b → Kin a b
-unfolding valueOf
+unfolding characterValue
 kin-letters a b s t n =
     let h = letter-ends a s in
     let k = letter-ends b t in
@@ -80,4 +78,4 @@ pub kin : {a b : ℕ} → Slip a b → Kin a b
 kin {a} {b} s =
     ⊎-elim (λ t. let p = both-parts (isDigit a) (isDigit b) t in kin-digits a b (p .0) (p .1) (s .other))
     (λ t. let p = both-parts (isLetter a) (isLetter b) t in kin-letters a b (p .0) (p .1) (s .other))
-    (either-parts (both (isDigit a) (isDigit b)) (both (isLetter a) (isLetter b)) (s .kind))
+    (either-parts (isDigit a && isDigit b) (isLetter a && isLetter b) (s .kind))

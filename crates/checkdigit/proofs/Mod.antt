@@ -1,5 +1,4 @@
 -- Laws of remainders: what a running remainder keeps, and what can be cancelled.
--- Assumes nothing.
 use mathlib.Core.Path.{_≡_, sym, _∙_, ap}
 use Prim.Native.Nat.{ℕ, zero, suc, _+_, _*_, _/_, _%_, _^_}
 use native.Mathlib.Nat.{add-mul-mod-self-left, div-add-mod, add-zero, one-mul, mul-one, mul-assoc, pow-suc, pow-zero}

@@ -1,20 +1,18 @@
 -- What a change at a decimal place does to a remainder by 97: facts on numbers, once over the place.
--- Assumes nothing.
 use mathlib.Core.Path.{_≡_, refl, subst}
-use mathlib.Core.Bool.{Bool, true}
+use mathlib.Core.Bool.{Bool, true, _&&_}
 use Prim.Native.Nat.{ℕ, zero, suc, _+_, _*_, _%_, _^_, _<_, _≤_}
 use native.Mathlib.Nat.{not-suc-le-zero}
 use native.Mathlib.Decide.{decLt}
 use native.Mathlib.Omega.{arith}
 use lib.Dec.{T, eqb, eqb→eq}
-use Rattle.answer.specs.Choice.{both}
 use Rattle.text.proofs.Ranges.{both-parts}
 use Rattle.checkdigit.proofs.Mod.{cancel, cancel-pow, cancel-add}
 
 -- a test that passes at every number below a bound
 abbrev every-below : (ℕ → Bool) → ℕ → Bool
 every-below f zero = true
-every-below f (suc n) = both (f n) (every-below f n)
+every-below f (suc n) = f n && every-below f n
 
 at-below : (f : ℕ → Bool) (n : ℕ) → T (every-below f n) → (k : ℕ) → k < n → T (f k)
 at-below f zero t k h = absurd (not-suc-le-zero h)

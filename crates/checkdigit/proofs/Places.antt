@@ -1,5 +1,4 @@
 -- A remainder that a rule tells fits a verdict: it is below 97.
--- Assumes nothing.
 use Prim.Native.Nat.{ℕ}
 use mathlib.Core.List.{List}
 use native.Mathlib.Omega.{arith}

@@ -1,6 +1,5 @@
 -- Demand 3, for the text as it stands and for an IBAN's rearranged one: a slip, and an exchange of two unequal characters of a kind, change
 -- the remainder, and check digits that are filled in make it 1.
--- Assumes nothing.
 use mathlib.Core.Path.{_≡_, sym, _∙_}
 use mathlib.Core.Logic.{_≢_}
 use mathlib.Core.List.{List, _++_}

@@ -1,5 +1,4 @@
--- Worked examples: the remainders of document 01's table, "Worked by hand".
--- Assumes nothing.
+-- Worked examples: the remainders of SCOPE's table, "Worked by hand".
 use Prim.Native.Nat.{ℕ}
 use Prim.Native.String.{String}
 use mathlib.Core.Path.{_≡_, refl}
@@ -8,7 +7,7 @@ use Rattle.text.specs.Class.{classOf}
 use Rattle.text.specs.Decimal.{decimal}
 use Rattle.text.specs.Quote.{bytesOf}
 use Rattle.checkdigit.specs.Letter.{letterValue}
-use Rattle.checkdigit.specs.Sum.{valueOf, digitsOf, expand, remainderOf, rearranged, ibanRemainder}
+use Rattle.checkdigit.specs.Sum.{characterValue, characterDigits, expand, remainderOf, rearranged, ibanRemainder}
 
 record Example : Type 0 where
   sum : List ℕ → ℕ
@@ -38,5 +37,5 @@ examples =
     ∷ []
 
 pub worked : map (λ e. e .sum (bytesOf (e .text))) examples ≡ map (λ e. e .leaves) examples
-unfolding classOf decimal letterValue valueOf digitsOf expand remainderOf rearranged ibanRemainder
+unfolding classOf decimal letterValue characterValue characterDigits expand remainderOf rearranged ibanRemainder
 worked = refl

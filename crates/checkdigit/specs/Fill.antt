@@ -1,6 +1,5 @@
 -- Check digits. ISO 7064, MOD 97-10, where it generates them: two digits 00 are put in their place, and 98 less the remainder of that text
--- is written there instead; document 01, "The repair sheet": "always 02..98".
--- Assumes nothing.
+-- is written there instead; SCOPE, "The repair sheet": "always 02..98".
 use Prim.Native.Nat.{ℕ, _+_, _-_, _/_, _%_, _≤_}
 use mathlib.Core.Path.{_≡_}
 use mathlib.Core.List.{List, [], _∷_}
@@ -16,8 +15,8 @@ pub record Fills (r d : ℕ) : Type 0 where
   pub most : d ≤ 98
 
 -- d as two characters
-abbrev pub twoDigits : ℕ → List ℕ
-twoDigits d = (48 + d / 10) ∷ (48 + d % 10) ∷ []
+abbrev pub twoCharacters : ℕ → List ℕ
+twoCharacters d = (48 + d / 10) ∷ (48 + d % 10) ∷ []
 
 -- .. and these at places i and i + 1 of a text
 abbrev pub stamped : List ℕ → ℕ → ℕ → List ℕ

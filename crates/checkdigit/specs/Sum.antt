@@ -1,27 +1,26 @@
 -- ISO 7064, the pure system MOD 97-10, and ISO 13616, where it validates check digits: each character is written as the decimal digits of
 -- its value, all these digits together are read as ONE number, and that number is divided by 97. An IBAN's first four characters go to
 -- its end before that; an LEI (ISO 17442) is taken as it stands.
--- Assumes nothing.
 use Prim.Native.Nat.{ℕ, _+_, _*_, _/_, _%_, _^_, _<_}
 use mathlib.Core.Path.{_≡_}
 use mathlib.Core.List.{List, [], _∷_, _++_}
 use lib.ListN.{length, take, drop, set, getD}
-use Rattle.answer.specs.Choice.{pick}
+use mathlib.Core.Bool.{cond}
 use Rattle.text.specs.Class.{isDigit}
 use Rattle.text.specs.Decimal.{decimal, digitOf}
 use Rattle.checkdigit.specs.Letter.{letterValue}
 
 -- a digit counts for itself, any other character as a letter does (the rules let letters and digits through only)
-unfoldable pub valueOf : ℕ → ℕ
-valueOf b = pick (isDigit b) (digitOf b) (letterValue b)
+unfoldable pub characterValue : ℕ → ℕ
+characterValue b = cond (isDigit b) (digitOf b) (letterValue b)
 
 -- .. the first written with one decimal digit, the other with two
-unfoldable pub digitsOf : ℕ → List ℕ
-digitsOf b = pick (isDigit b) (valueOf b ∷ []) (valueOf b / 10 ∷ valueOf b % 10 ∷ [])
+unfoldable pub characterDigits : ℕ → List ℕ
+characterDigits b = cond (isDigit b) (characterValue b ∷ []) (characterValue b / 10 ∷ characterValue b % 10 ∷ [])
 
 unfoldable pub expand : List ℕ → List ℕ
 expand [] = []
-expand (b ∷ t) = digitsOf b ++ expand t
+expand (b ∷ t) = characterDigits b ++ expand t
 
 -- the one number that the expanded text writes
 abbrev pub number : List ℕ → ℕ

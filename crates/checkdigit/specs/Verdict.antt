@@ -1,5 +1,4 @@
--- Document 01, kinds 1 and 2, the last step: the remainder is 1; else 5, with the remainder.
--- Assumes nothing.
+-- SCOPE, kinds 1 and 2, the last step: the remainder is 1; else 5, with the remainder.
 use Prim.Native.Nat.{ℕ}
 use lib.Dec.{eqb}
 use Rattle.answer.specs.Steps.{must}

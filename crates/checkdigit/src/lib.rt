@@ -4,7 +4,7 @@ ghost use mathlib.Core.List.{[], _∷_};
 ghost use Prim.Native.Nat.{_<_, _^_, _%_};
 ghost use lib.ListN.{length};
 ghost use Rattle.checkdigit.specs.Letter.{letterValue};
-ghost use Rattle.checkdigit.specs.Sum.{valueOf, digitsOf, numberAfter, continued, remainderOf, ibanRemainder, Remains};
+ghost use Rattle.checkdigit.specs.Sum.{characterValue, characterDigits, numberAfter, continued, remainderOf, ibanRemainder, Remains};
 ghost use Rattle.checkdigit.specs.Fill.{Fills};
 ghost use Rattle.checkdigit.specs.Verdict.{remainderStep};
 use answer::Reason;
@@ -23,7 +23,7 @@ fn letter_value(b: u8) -> u64
 }
 
 fn value(b: u8) -> u64
-    ensures { λ r. ⌜ r ≡ valueOf b ⌝ }
+    ensures { λ r. ⌜ r ≡ characterValue b ⌝ }
 {
     match b {
         b'0'..=b'9' => wide(b - 48),
@@ -33,7 +33,7 @@ fn value(b: u8) -> u64
 
 // What a number is multiplied by to make room for a character's digits: one for a digit, two for any other character.
 fn scale(b: u8) -> u64
-    ensures { λ r. ⌜ r ≡ 10 ^ length (digitsOf b) ⌝ }
+    ensures { λ r. ⌜ r ≡ 10 ^ length (characterDigits b) ⌝ }
 {
     match b {
         b'0'..=b'9' => 10,

@@ -1,9 +1,8 @@
 -- Laws of codes: a search of a table from a place on; codes of one length are equal where their numbers are; the answer of a field that
 -- is well spelt, and of one that is not.
--- Assumes nothing.
 use Prim.Native.Nat.{ℕ, zero, suc, _+_, _*_, _≤_, _<_}
 use mathlib.Core.Path.{_≡_, refl, sym, _∙_}
-use mathlib.Core.Bool.{Bool, true, false}
+use mathlib.Core.Bool.{Bool, true, false, _&&_}
 use mathlib.Core.List.{List, [], _∷_, map}
 use native.Mathlib.Numerals.{add-one}
 use native.Mathlib.Omega.{arith}
@@ -11,8 +10,7 @@ use borrow.Author.Tests.{eq-eqb, ne-eqb}
 use lib.Dec.{T, eqb, ltb, eqb→eq, eqb-refl, lt→ltb, ltb→lt}
 use lib.ListN.{length, getD, take, drop, drop-of-length-le}
 use lib.Seq.{drop-cons, take-all}
-use Rattle.answer.specs.Choice.{both}
-use Rattle.answer.specs.Steps.{must, _andThen_, _orAccept_}
+use Rattle.answer.specs.Steps.{check, must, _andThen_, _orAccept_}
 use Rattle.answer.specs.declared.Answer.the-variants.{Accepted, Refused}
 use Rattle.answer.specs.declared.Reason.{Reason}
 use Rattle.answer.specs.declared.Reason.the-variants.{NotListed}
@@ -44,7 +42,7 @@ bytes s = every (λ b. ltb b 256) s
 -- every code is n bytes: the test by which a list is fit to be packed
 abbrev pub fit : ℕ → List (List ℕ) → Bool
 fit n [] = true
-fit n (w ∷ ws) = both (both (eqb (length w) n) (bytes w)) (fit n ws)
+fit n (w ∷ ws) = (eqb (length w) n && bytes w) && fit n ws
 
 equal-tests : (a b : Bool) → (T a → T b) → (T b → T a) → a ≡ b
 equal-tests true true f g = refl
@@ -78,7 +76,7 @@ packed-among : (n : ℕ) (s : List ℕ) (codes : List (List ℕ)) → length s �
     → among (map packed codes) (packed s) ≡ any (sameText s) codes
 packed-among n s [] l p t = refl
 packed-among n s (w ∷ codes) l p t =
-    let u = both-parts (both (eqb (length w) n) (bytes w)) (fit n codes) t in
+    let u = both-parts (eqb (length w) n && bytes w) (fit n codes) t in
     let v = both-parts (eqb (length w) n) (bytes w) (u .0) in
     let k = eqb→eq (length w) n (v .0) in
     rw (number-tells s w p (v .1) (omega arith), packed-among n s codes l p (u .1))
@@ -100,12 +98,12 @@ module _ (kind n : ℕ) (s : List ℕ) where
   -- what the steps before the list have shown
   spelt-length : wellSpelt kind n s ≡ Pass → length s ≡ n
   unfolding wellSpelt
-  spelt-length e = length-held n s (100 * kind + 2) (both-pass _ _ (both-pass _ _ (both-pass _ _ e .0) .0) .1)
+  spelt-length e = length-held n s (check kind 2) (both-pass _ _ (both-pass _ _ (both-pass _ _ e .0) .0) .1)
 
   spelt-low : wellSpelt kind n s ≡ Pass → Low s 0 (length s)
   unfolding wellSpelt
   spelt-low e =
-      low-part s 0 n 0 (length s) (omega arith) (omega (arith, spelt-length e)) (low-first s Capitals 0 n (100 * kind + 4) (both-pass _ _ e .1))
+      low-part s 0 n 0 (length s) (omega arith) (omega (arith, spelt-length e)) (low-first s Capitals 0 n (check kind 4) (both-pass _ _ e .1))
 
   spelt-bytes : wellSpelt kind n s ≡ Pass → T (bytes s)
   spelt-bytes e = every-of (λ b. ltb b 256) s (λ j h. lt→ltb (getD s j 0) 256 (omega (arith, spelt-low e j (omega arith) h)))
@@ -118,14 +116,14 @@ module _ (kind n : ℕ) (s : List ℕ) where
   -- a field that is not well spelt is refused by the step that says so
   pub misspelt : (codes : List (List ℕ)) (r : Reason) (k : ℕ) → wellSpelt kind n s ≡ Stop r k → Refused r k ≡ codeRule kind n codes s
   unfolding codeRule _orAccept_
-  misspelt codes r k e = rw (stops r k (onList codes s (100 * kind + 5)) e)
+  misspelt codes r k e = rw (stops r k (onList codes s (check kind 5)) e)
 
   -- and of one that is, the number of its bytes decides, where every code of the list is n bytes
   pub by-number : (codes : List (List ℕ)) (code : ℕ) (listed : Bool) → T (fit n codes) → wellSpelt kind n s ≡ Pass
       → code ≡ packed (readAt s 0 n) → listed ≡ among (map packed codes) code
-      → must listed NotListed (100 * kind + 5) orAccept 0 ≡ codeRule kind n codes s
+      → must listed NotListed (check kind 5) orAccept 0 ≡ codeRule kind n codes s
   unfolding codeRule onList
   by-number codes code listed t e f g =
       let l = spelt-length e in
       let whole : readAt s 0 n ≡ s = read-is s 0 n (omega arith) ∙ take-all n s (omega arith) in
-      rw (passes (onList codes s (100 * kind + 5)) e, g, f, whole, packed-among n s codes l (spelt-bytes e) t)
+      rw (passes (onList codes s (check kind 5)) e, g, f, whole, packed-among n s codes l (spelt-bytes e) t)

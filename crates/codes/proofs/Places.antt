@@ -1,5 +1,4 @@
 -- What the rule of a code says fits a verdict.
--- Assumes nothing.
 use Prim.Native.Nat.{ℕ, _<_, _^_}
 use mathlib.Core.List.{List}
 use Rattle.text.proofs.Near.{Small, Short, nears}

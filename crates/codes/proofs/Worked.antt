@@ -1,5 +1,4 @@
 -- Worked examples, one theorem: the codes of two lines, two codes as numbers, and the rule of a kind 9 over a list of three codes.
--- Assumes nothing.
 use mathlib.Core.Path.{_≡_, refl}
 use mathlib.Core.List.{List, [], _∷_, map}
 use Prim.Native.Nat.{ℕ}

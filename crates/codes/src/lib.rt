@@ -1,7 +1,7 @@
 // Codes of capital letters that stand on a list: what the rules of kinds 7 and 8 share.
 ghost use mathlib.Core.Path.{_≡_};
 ghost use Prim.Native.Nat.{_+_, _*_};
-ghost use Rattle.answer.specs.Steps.{must, _orAccept_};
+ghost use Rattle.answer.specs.Steps.{check, must, _orAccept_};
 ghost use Rattle.answer.specs.declared.Reason.the-variants.{NotListed};
 ghost use Rattle.codes.specs.Codes.{wellSpelt, among};
 use answer::Answer;
@@ -22,7 +22,7 @@ pub fn well_spelt(kind: u8, n: usize, s: &[u8]) -> Step
 
 // The answer of a code that is well spelt.
 pub fn by_list(kind: u8, listed: bool) -> Answer
-    ensures { λ r. ⌜ r ≡ must listed NotListed (100 * kind + 5) orAccept 0 ⌝ }
+    ensures { λ r. ⌜ r ≡ must listed NotListed (check kind 5) orAccept 0 ⌝ }
 {
     if listed {
         Answer::Accepted(0)

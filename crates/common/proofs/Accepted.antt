@@ -1,14 +1,12 @@
 -- An amount in cents that is accepted, strictly or leniently, is ASCII.
--- Assumes nothing.
 use Prim.Native.Nat.{ℕ, _+_}
 use mathlib.Core.Path.{_≡_, refl}
-use mathlib.Core.Bool.{Bool, true, false}
+use mathlib.Core.Bool.{Bool, true, false, _&&_, cond}
 use mathlib.Core.List.{List}
 use native.Mathlib.Omega.{arith}
 use borrow.Author.Tests.{ltb-true, ltb-false}
 use lib.Dec.{T, eqb, ltb, eqb→eq}
 use lib.ListN.{length, getD}
-use Rattle.answer.specs.Choice.{both, pick}
 use Rattle.answer.specs.declared.Answer.the-variants.{Accepted}
 use Rattle.answer.specs.declared.Step.the-variants.{Pass}
 use Rattle.answer.proofs.Laws.{both-pass, accepted-pass}
@@ -20,9 +18,9 @@ use Rattle.common.specs.Cents.{digitsAt, digits, whole, dot, past, fract
 module _ (s : List ℕ) where
   plus-low : (from to : ℕ) → Low s from (digitsAt s from to)
   unfolding digitsAt
-  plus-low from to = go (both (ltb from to) (eqb (getD s from 0) 43)) (λ t. t)
+  plus-low from to = go (ltb from to && eqb (getD s from 0) 43) (λ t. t)
     where
-      go : (u : Bool) → (T u → T (both (ltb from to) (eqb (getD s from 0) 43))) → Low s from (pick u (from + 1) from)
+      go : (u : Bool) → (T u → T (ltb from to && eqb (getD s from 0) 43)) → Low s from (cond u (from + 1) from)
       go true f = low-one s from (omega (arith, eqb→eq (getD s from 0) 43 (both-parts (ltb from to) (eqb (getD s from 0) 43) (f tt) .1)))
       go false f = low-none s from from (omega arith)
 
@@ -36,7 +34,7 @@ module _ (s : List ℕ) where
   unfolding past
   past-low = go (ltb (dot s) (length s)) refl
     where
-      go : (u : Bool) → ltb (dot s) (length s) ≡ u → Low s (dot s) (pick u (dot s + 1) (length s))
+      go : (u : Bool) → ltb (dot s) (length s) ≡ u → Low s (dot s) (cond u (dot s + 1) (length s))
       go true e = low-place s 46 (omega arith) (ltb-true (dot s) (length s) e)
       go false e = low-none s (dot s) (length s) (ltb-false (dot s) (length s) e)
 
@@ -45,7 +43,7 @@ module _ (s : List ℕ) where
   fraction-low least from k =
       low-then s _ _ from from (length s) (λ e. low-none s from from (omega arith)) (go (ltb from (length s)) refl)
     where
-      go : (u : Bool) → ltb from (length s) ≡ u → pick u (whole s from (length s) (k + 1)) Pass ≡ Pass → Low s from (length s)
+      go : (u : Bool) → ltb from (length s) ≡ u → cond u (whole s from (length s) (k + 1)) Pass ≡ Pass → Low s from (length s)
       go true h e = whole-low from (length s) (k + 1) e
       go false h e = low-none s from (length s) (ltb-false from (length s) h)
 

@@ -1,13 +1,11 @@
 -- What the rules of cents say fits a verdict, the cents among it.
--- Assumes nothing.
 use Prim.Native.Nat.{ℕ, _+_, _-_, _^_, _≤_, _<_}
 use mathlib.Core.Path.{_≡_}
-use mathlib.Core.Bool.{Bool, true, false}
+use mathlib.Core.Bool.{Bool, true, false, _&&_, cond}
 use mathlib.Core.List.{List}
 use native.Mathlib.Omega.{arith}
 use lib.Dec.{eqb, ltb, ltb→lt}
 use lib.ListN.{length, getD}
-use Rattle.answer.specs.Choice.{both, pick}
 use Rattle.answer.specs.declared.Reason.the-variants.{TooLarge}
 use Rattle.answer.specs.declared.Step.the-variants.{Pass}
 use Rattle.answer.proofs.Laws.{test-held, both-pass}
@@ -15,20 +13,20 @@ use Rattle.text.proofs.Fields.{first-most}
 use Rattle.text.proofs.Near.{Near, Small, Short, small-accept, nears}
 use Rattle.common.specs.Cents.{below64, digitsAt, digits, whole, dot, past, fraction, cents, parts, parseAmountCents, parseAmountCentsLenient}
 
-one-more : (t : Bool) (n : ℕ) → n ≤ 65000 → pick t (n + 1) n < 2 ^ 16
+one-more : (t : Bool) (n : ℕ) → n ≤ 65000 → cond t (n + 1) n < 2 ^ 16
 one-more true n h = omega arith
 one-more false n h = omega arith
 
 module _ (s : List ℕ) (h : Short s) where
   whole-near : (from to k : ℕ) → from ≤ 65000 → to < 2 ^ 16 → Near (whole s from to k)
   unfolding whole digits digitsAt below64
-  whole-near from to k f t = let g = one-more (both (ltb from to) (eqb (getD s from 0) 43)) from f in search nears depth 9
+  whole-near from to k f t = let g = one-more (ltb from to && eqb (getD s from 0) 43) from f in search nears depth 9
 
   past-near : past s (dot s) ≤ 65000
   unfolding past
   past-near = go (ltb (dot s) (length s))
     where
-      go : (t : Bool) → pick t (dot s + 1) (length s) ≤ 65000
+      go : (t : Bool) → cond t (dot s + 1) (length s) ≤ 65000
       go true = omega (arith, first-most 46 s)
       go false = omega arith
 

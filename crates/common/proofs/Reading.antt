@@ -1,15 +1,13 @@
 -- Laws of reading: what an answer has shown, the digits of a part one by one, and the steps of a part, of the fraction and of both.
--- Assumes nothing.
 use Prim.Native.Nat.{ℕ, suc, _+_, _-_, _*_, _^_, _≤_, _<_}
 use mathlib.Core.Path.{_≡_, refl, _∙_}
-use mathlib.Core.Bool.{Bool, true, false}
+use mathlib.Core.Bool.{Bool, true, false, _&&_, cond}
 use mathlib.Core.List.{List, [], _∷_}
 use native.Mathlib.Omega.{arith}
 use borrow.Author.Tests.{lt-ltb, le-ltb, eq-eqb, ne-eqb}
 use lib.Dec.{eqb, ltb}
 use lib.ListN.{length, getD, take, drop, length-drop}
 use lib.Seq.{getD-drop, take-take}
-use Rattle.answer.specs.Choice.{both, pick}
 use Rattle.answer.specs.Steps.{_andThen_, _orAccept_}
 use Rattle.answer.specs.declared.Answer.the-variants.{Refused}
 use Rattle.answer.specs.declared.Reason.{Reason}
@@ -26,7 +24,7 @@ use Rattle.text.proofs.Fields.{wrong-on, digits-most}
 use Rattle.text.proofs.Ranges.{is-false, within-yes, within-ends}
 use Rattle.answer.proofs.Laws.{both-pass}
 use Rattle.text.specs.Field.{present}
-use Rattle.common.specs.Cents.{parsed, below64, digitsAt, numberAt, digits, whole, wholeNumber, dot, past, fraction, worth, cents, parts}
+use Rattle.common.specs.Cents.{parsed, below64, digitsAt, numberBetween, digits, whole, wholeNumber, dot, past, fraction, worth, cents, parts}
 use Rattle.common.specs.declared.Parsed.the-variants.{Is, Not}
 
 parsed-is : (t : Step) (n m : ℕ) → parsed t n ≡ Is m → (t ≡ Pass) × (m ≡ n)
@@ -47,32 +45,32 @@ past-any (Stop q j) r k n m = refl
 
 -- the digits of a part by what the search for a wrong byte says
 module _ (s : List ℕ) (at to k : ℕ) where
-  pub digits-wrong : (r : Reason) (j : ℕ) → firstWrong Digits s at to k ≡ Stop r j → Not r j ≡ parsed (digits s at to k) (numberAt s at to)
+  pub digits-wrong : (r : Reason) (j : ℕ) → firstWrong Digits s at to k ≡ Stop r j → Not r j ≡ parsed (digits s at to k) (numberBetween s at to)
   unfolding parsed digits _andThen_
   digits-wrong r j e = rw e
 
-  pub digits-fit : (n : ℕ) → firstWrong Digits s at to k ≡ Pass → n ≡ numberAt s at to → n < 2 ^ 64 → Is n ≡ parsed (digits s at to k) (numberAt s at to)
+  pub digits-fit : (n : ℕ) → firstWrong Digits s at to k ≡ Pass → n ≡ numberBetween s at to → n < 2 ^ 64 → Is n ≡ parsed (digits s at to k) (numberBetween s at to)
   unfolding parsed digits below64 _andThen_
   digits-fit n e q h = rw (e, ← q, lt-ltb n (2 ^ 64) h)
 
-  pub digits-past : (rest : Step) → firstWrong Digits s at to k ≡ rest → 2 ^ 64 ≤ numberAt s at to
-      → parsed (rest andThen Stop TooLarge (k + 1)) 0 ≡ parsed (digits s at to k) (numberAt s at to)
+  pub digits-past : (rest : Step) → firstWrong Digits s at to k ≡ rest → 2 ^ 64 ≤ numberBetween s at to
+      → parsed (rest andThen Stop TooLarge (k + 1)) 0 ≡ parsed (digits s at to k) (numberBetween s at to)
   unfolding digits below64
-  digits-past rest e h = rw (e, le-ltb (numberAt s at to) (2 ^ 64) h) (past-any rest TooLarge (k + 1) 0 (numberAt s at to))
+  digits-past rest e h = rw (e, le-ltb (numberBetween s at to) (2 ^ 64) h) (past-any rest TooLarge (k + 1) 0 (numberBetween s at to))
 
 -- no digit, and one digit more
-pub number-empty : (s : List ℕ) (at to : ℕ) → to ≤ at → numberAt s at to ≡ 0
-unfolding numberAt
+pub number-empty : (s : List ℕ) (at to : ℕ) → to ≤ at → numberBetween s at to ≡ 0
+unfolding numberBetween
 number-empty s at to h = let none : to - at ≡ 0 = omega arith in rw none number-none
 
 -- digits that follow make it no smaller
-pub number-part : (s : List ℕ) (at i to : ℕ) → i ≤ to → numberAt s at i ≤ numberAt s at to
-unfolding numberAt
+pub number-part : (s : List ℕ) (at i to : ℕ) → i ≤ to → numberBetween s at i ≤ numberBetween s at to
+unfolding numberBetween
 number-part s at i to h = rw (take-take (i - at) (to - at) (drop at s) (omega arith)) at (number-grows (i - at) (take (to - at) (drop at s)))
 
 module _ (s : List ℕ) (at i : ℕ) (from : at ≤ i) where
-  pub number-next : i < length s → numberAt s at (i + 1) ≡ numberAt s at i * 10 + digitOf (getD s i 0)
-  unfolding numberAt
+  pub number-next : i < length s → numberBetween s at (i + 1) ≡ numberBetween s at i * 10 + digitOf (getD s i 0)
+  unfolding numberBetween
   number-next h =
       let l = drop at s in
       let next : i + 1 - at ≡ (i - at) + 1 = omega arith in
@@ -85,22 +83,22 @@ module _ (s : List ℕ) (at i : ℕ) (from : at ≤ i) where
       wrong-on Digits s i k (to - i) (omega arith) e ∙ rw less
 
 -- what is no more than either is no more than the one that is picked
-picked : (t : Bool) (a b n : ℕ) → n ≤ a → n ≤ b → n ≤ pick t a b
+picked : (t : Bool) (a b n : ℕ) → n ≤ a → n ≤ b → n ≤ cond t a b
 picked true a b n p q = p
 picked false a b n p q = q
 
 after-plus : (s : List ℕ) (from to : ℕ) → from ≤ digitsAt s from to
 unfolding digitsAt
-after-plus s from to = picked (both (ltb from to) (eqb (getD s from 0) 43)) (from + 1) from from (omega arith) (omega arith)
+after-plus s from to = picked (ltb from to && eqb (getD s from 0) 43) (from + 1) from from (omega arith) (omega arith)
 
 -- a whole number of m bytes is below 10^m
 pub whole-most : (s : List ℕ) (from to k n m : ℕ) → to - from ≤ m → parsed (whole s from to k) (wholeNumber s from to) ≡ Is n → n < 10 ^ m
-unfolding whole wholeNumber numberAt digits firstWrong
+unfolding whole wholeNumber numberBetween digits firstWrong
 whole-most s from to k n m h e =
     let at = digitsAt s from to in
     let p = parsed-is (whole s from to k) (wholeNumber s from to) n e in
     let d = both-pass (present at to k) (digits s at to (k + 1)) (p .0) .1 in
-    let w = both-pass (firstWrong Digits s at to (k + 1)) (below64 (numberAt s at to) (k + 1 + 1)) d .0 in
+    let w = both-pass (firstWrong Digits s at to (k + 1)) (below64 (numberBetween s at to) (k + 1 + 1)) d .0 in
     let l = after-plus s from to in
     rw (p .1) (digits-most s at (to - at) (k + 1) m (omega arith) w)
 

@@ -1,5 +1,4 @@
--- Worked examples: document 01's cents and one for each step that can refuse, one theorem.
--- Assumes nothing.
+-- Worked examples: SCOPE's cents and one for each step that can refuse, one theorem.
 use Prim.Native.Nat.{_^_, _-_}
 use mathlib.Core.Path.{_≡_, refl}
 use mathlib.Core.List.{[], _∷_, map}
@@ -7,10 +6,10 @@ use Rattle.answer.specs.Steps.{_andThen_, _orAccept_}
 use Rattle.answer.specs.declared.Answer.the-variants.{Accepted, Refused}
 use Rattle.answer.specs.declared.Reason.the-variants.{Length, Wrong, Missing, TooLarge}
 use Rattle.text.specs.Class.{classOf}
-use Rattle.text.specs.Decimal.{decimal, numberOf}
+use Rattle.text.specs.Decimal.{decimal, numberWritten}
 use Rattle.text.specs.Field.{present, firstPlace, firstWrong, wrongFrom}
 use Rattle.text.specs.Quote.{bytesOf}
-use Rattle.common.specs.Cents.{below64, digitsAt, numberAt, digits, whole, wholeNumber, past, fraction, worth, cents, parts, parseAmountCents, parseAmountCentsLenient}
+use Rattle.common.specs.Cents.{below64, digitsAt, numberBetween, digits, whole, wholeNumber, past, fraction, worth, cents, parts, parseAmountCents, parseAmountCentsLenient}
 
 pub worked : (map (λ t. parseAmountCents (bytesOf t))
     ("184467440737095516.15" ∷ "1.+5" ∷ "0.+0" ∷ "1000" ∷ ".50" ∷ "+.50" ∷ "1-.50" ∷ "18446744073709551616.00" ∷ "1000." ∷ "1.++" ∷ "1.5x" ∷ "184467440737095516.16" ∷ [])
@@ -41,5 +40,5 @@ pub worked : (map (λ t. parseAmountCents (bytesOf t))
     ∷ Refused (Wrong 2) 1007
     ∷ Refused TooLarge 1009
     ∷ [])
-unfolding classOf decimal numberOf firstPlace firstWrong wrongFrom present below64 digitsAt numberAt digits whole wholeNumber past fraction worth cents parts parseAmountCents parseAmountCentsLenient _andThen_ _orAccept_
+unfolding classOf decimal numberWritten firstPlace firstWrong wrongFrom present below64 digitsAt numberBetween digits whole wholeNumber past fraction worth cents parts parseAmountCents parseAmountCentsLenient _andThen_ _orAccept_
 worked = (refl, refl)

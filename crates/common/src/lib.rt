@@ -10,7 +10,7 @@ ghost use Rattle.common.specs.Cents.{
   parsed,
   below64,
   digitsAt,
-  numberAt,
+  numberBetween,
   digits,
   whole,
   wholeNumber,
@@ -58,7 +58,7 @@ fn past_limit(rest: Step, check: u16) -> Parsed
 // Digits in one pass; past 64 bits the rest of them is only looked through.
 fn digits(s: &[u8], at: usize, to: usize, check: u16) -> Parsed
     requires { ⌜ (at ≤ to) × (to ≤ length (now s)) × (check ≤ 2000) ⌝ }
-    ensures { λ r. ⌜ r ≡ parsed (digits (now (s .entry)) at to check) (numberAt (now (s .entry)) at to) ⌝ }
+    ensures { λ r. ⌜ r ≡ parsed (digits (now (s .entry)) at to check) (numberBetween (now (s .entry)) at to) ⌝ }
 {
     let mut n: u64 = 0;
     let mut i = at;

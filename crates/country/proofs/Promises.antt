@@ -1,5 +1,4 @@
 -- The list of kind 7: how many codes it has, and that each is two bytes long.
--- Assumes nothing.
 use mathlib.Core.Path.{_≡_, refl}
 use lib.Dec.{T}
 use lib.ListN.{length}

@@ -1,5 +1,4 @@
--- Document 01, kind 7: the 250 codes of `country.rs`, line by line and in its order, and the rule over them.
--- Assumes nothing.
+-- SCOPE, kind 7: the 250 codes of `country.rs`, line by line and in its order, and the rule over them.
 use Prim.Native.Nat.{ℕ}
 use mathlib.Core.List.{List, [], _∷_}
 use Rattle.answer.specs.declared.Answer.{Answer}

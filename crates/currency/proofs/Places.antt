@@ -1,5 +1,4 @@
 -- What the rule of a currency code says fits a verdict.
--- Assumes nothing.
 use Prim.Native.Nat.{ℕ}
 use mathlib.Core.List.{List}
 use native.Mathlib.Omega.{arith}

@@ -1,5 +1,4 @@
 -- Worked examples of the rule, one theorem: HRK is listed, BIF is not, since the array in `currency.rs` lacks it.
--- Assumes nothing.
 use mathlib.Core.Path.{_≡_, refl}
 use mathlib.Core.List.{[], _∷_, map}
 use Rattle.answer.specs.Steps.{_andThen_, _orAccept_}

@@ -1,8 +1,7 @@
 -- A date and a datetime that are accepted are ASCII.
--- Assumes nothing.
 use Prim.Native.Nat.{ℕ, _+_, _-_, _<_}
 use mathlib.Core.Path.{_≡_, refl}
-use mathlib.Core.Bool.{Bool, true, false}
+use mathlib.Core.Bool.{Bool, true, false, _||_, cond}
 use mathlib.Core.List.{List}
 use mathlib.Core.Logic.{⊎-elim}
 use native.Mathlib.Omega.{arith}
@@ -10,7 +9,7 @@ use borrow.Author.Tests.{eqb-true}
 use lib.Dec.{T, eqb, leb, eqb→eq, leb→le}
 use lib.ListN.{length, getD, drop}
 use lib.Seq.{getD-drop}
-use Rattle.answer.specs.Choice.{either, pick}
+use Rattle.answer.specs.Steps.{check}
 use Rattle.answer.specs.declared.Answer.the-variants.{Accepted}
 use Rattle.answer.specs.declared.Reason.the-variants.{Wrong, Trailing}
 use Rattle.answer.specs.declared.Step.the-variants.{Pass}
@@ -18,7 +17,7 @@ use Rattle.answer.proofs.Laws.{test-held, accepted-pass, both-pass}
 use Rattle.text.proofs.Ranges.{either-parts}
 use Rattle.text.proofs.Classes.{digit-ends}
 use Rattle.text.proofs.Low.{Low, low-none, low-one, low-join, low-part, low-then, low-digits, low-literal, length-held}
-use Rattle.datetime.specs.Date.{check, datePart, dateAnswer}
+use Rattle.datetime.specs.Date.{datePart, dateAnswer}
 use Rattle.datetime.specs.Datetime.{
   isSign,
   digitRun,
@@ -34,7 +33,7 @@ use Rattle.datetime.specs.Datetime.{
 use Rattle.datetime.proofs.Digits.{run-digits}
 
 -- the byte that begins a zone
-zone-byte : (b : ℕ) → T (either (eqb b 0x5A) (isSign b)) → b < 128
+zone-byte : (b : ℕ) → T (eqb b 0x5A || isSign b) → b < 128
 zone-byte b t =
     ⊎-elim (λ u. omega (arith, eqb→eq b 0x5A u))
     (λ u. ⊎-elim (λ v. omega (arith, eqb→eq b 0x2B v)) (λ v. omega (arith, eqb→eq b 0x2D v)) (either-parts (eqb b 0x2B) (eqb b 0x2D) u))
@@ -76,7 +75,7 @@ module _ (s : List ℕ) where
   unfolding zonePlace digitsEnd
   fraction-low = go (eqb (getD s 19 0) 0x2E) refl
     where
-      go : (t : Bool) → eqb (getD s 19 0) 0x2E ≡ t → Low s 19 (pick t (20 + digitRun (drop 20 s)) 19)
+      go : (t : Bool) → eqb (getD s 19 0) 0x2E ≡ t → Low s 19 (cond t (20 + digitRun (drop 20 s)) 19)
       go true e =
           low-join s 19 20 20 (20 + digitRun (drop 20 s)) (omega arith)
           (low-one s 19 (omega (arith, eqb-true (getD s 19 0) 0x2E e)))
@@ -105,10 +104,10 @@ module _ (s : List ℕ) where
   zone-low at kind =
       low-then s _ _ at (at + 1) (length s)
       (low-then s _ _ at at (at + 1) (λ e. low-none s at at (omega arith))
-      (λ e. low-one s at (zone-byte (getD s at 0) (test-held (either (eqb (getD s at 0) 0x5A) (isSign (getD s at 0))) (Wrong at) (check kind 21) e))))
+      (λ e. low-one s at (zone-byte (getD s at 0) (test-held (eqb (getD s at 0) 0x5A || isSign (getD s at 0)) (Wrong at) (check kind 21) e))))
       (go (isSign (getD s at 0)))
     where
-      go : (t : Bool) → pick t (offsetPart s (at + 1) kind) (endsAt s (at + 1) (check kind 28)) ≡ Pass → Low s (at + 1) (length s)
+      go : (t : Bool) → cond t (offsetPart s (at + 1) kind) (endsAt s (at + 1) (check kind 28)) ≡ Pass → Low s (at + 1) (length s)
       go true = offset-low (at + 1) kind
       go false = end-low (at + 1) (check kind 28)
 

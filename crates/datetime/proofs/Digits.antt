@@ -1,15 +1,13 @@
 -- Laws of a row of digits from a place on: it goes on past a digit, ends at another byte and at the field's end, and has digits only.
--- Assumes nothing.
 use Prim.Native.Nat.{ℕ, zero, suc, _+_, _≤_, _<_}
 use mathlib.Core.Path.{_≡_}
-use mathlib.Core.Bool.{Bool, true, false}
+use mathlib.Core.Bool.{Bool, true, false, cond}
 use mathlib.Core.List.{List, [], _∷_}
 use native.Mathlib.Numerals.{add-one}
 use native.Mathlib.Omega.{arith}
 use lib.Dec.{T}
 use lib.ListN.{length, getD, drop, drop-of-length-le}
 use lib.Seq.{drop-cons}
-use Rattle.answer.specs.Choice.{pick}
 use Rattle.text.specs.Class.{isDigit}
 use Rattle.datetime.specs.Datetime.{digitRun}
 
@@ -27,7 +25,7 @@ module _ (s : List ℕ) (i : ℕ) where
   run-none h = rw (drop-of-length-le s h)
 
 -- a place in a row shows that the row has a first digit, and how many follow
-in-row : (t : Bool) (j n : ℕ) → j < pick t (suc n) 0 → T t × (j ≤ n)
+in-row : (t : Bool) (j n : ℕ) → j < cond t (suc n) 0 → T t × (j ≤ n)
 in-row true j n h = (tt, omega arith)
 in-row false j n h = absurd (omega arith)
 

@@ -1,17 +1,16 @@
 -- What the rules of dates and datetimes say fits a verdict.
--- Assumes nothing.
 use Prim.Native.Nat.{ℕ, _+_, _^_, _≤_, _<_}
 use mathlib.Core.Path.{_≡_}
 use mathlib.Core.List.{List}
 use native.Mathlib.Omega.{arith}
 use lib.Dec.{ltb, ltb→lt}
 use lib.ListN.{length}
-use Rattle.answer.specs.Steps.{must}
+use Rattle.answer.specs.Steps.{check, must}
 use Rattle.answer.specs.declared.Reason.the-variants.{Missing}
 use Rattle.answer.specs.declared.Step.the-variants.{Pass}
 use Rattle.answer.proofs.Laws.{test-held, both-pass}
 use Rattle.text.proofs.Near.{Near, Small, Short, near-after, nears}
-use Rattle.datetime.specs.Date.{check, datePart, dateAnswer}
+use Rattle.datetime.specs.Date.{datePart, dateAnswer}
 use Rattle.datetime.specs.Datetime.{lengthFrom, clockPart, fractionPart, endsAt, offsetPart, zonePart, timePart, datetimeAnswer}
 
 module _ (s : List ℕ) (h : Short s) where

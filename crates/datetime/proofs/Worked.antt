@@ -1,5 +1,4 @@
 -- Worked examples: dates and datetimes, with a refusal by each kind of step, one theorem.
--- Assumes nothing.
 use mathlib.Core.Path.{_≡_, refl}
 use mathlib.Core.List.{List, [], _∷_, map}
 use Rattle.answer.specs.Steps.{_andThen_, _orAccept_}
@@ -7,7 +6,7 @@ use Rattle.answer.specs.declared.Answer.{Answer}
 use Rattle.answer.specs.declared.Answer.the-variants.{Accepted, Refused}
 use Rattle.answer.specs.declared.Reason.the-variants.{Length, Wrong, Range, Missing, Trailing}
 use Rattle.text.specs.Class.{classOf}
-use Rattle.text.specs.Decimal.{decimal, numberOf}
+use Rattle.text.specs.Decimal.{decimal, numberWritten}
 use Rattle.text.specs.Field.{lengthIs, wrongFrom, literalAt, inRange, digitsIn}
 use Rattle.text.specs.Quote.{bytesOf}
 use Rattle.datetime.specs.Date.{datePart, dateAnswer}
@@ -101,5 +100,5 @@ pub worked : (dates
     ∷ Refused (Trailing 20) 528
     ∷ Refused (Trailing 25) 528
     ∷ [])
-unfolding datePart dateAnswer digitRun digitsEnd zonePlace lengthFrom clockPart fractionPart endsAt offsetPart zonePart timePart datetimeAnswer classOf decimal numberOf lengthIs wrongFrom literalAt inRange digitsIn _andThen_ _orAccept_
+unfolding datePart dateAnswer digitRun digitsEnd zonePlace lengthFrom clockPart fractionPart endsAt offsetPart zonePart timePart datetimeAnswer classOf decimal numberWritten lengthIs wrongFrom literalAt inRange digitsIn _andThen_ _orAccept_
 worked = (refl, refl)

@@ -1,16 +1,11 @@
--- ISO 8601:2004, 4.1.2.2, the complete calendar date in extended format, YYYY-MM-DD. Document 01, kind 4, has the years 1900 to 2099 and no
+-- ISO 8601:2004, 4.1.2.2, the complete calendar date in extended format, YYYY-MM-DD. SCOPE, kind 4, has the years 1900 to 2099 and no
 -- calendar: each month may have the days 01 to 31.
--- Assumes nothing.
 use Prim.Native.Nat.{ℕ, _+_, _*_}
 use mathlib.Core.List.{List}
-use Rattle.answer.specs.Steps.{_andThen_, _orAccept_}
+use Rattle.answer.specs.Steps.{check, _andThen_, _orAccept_}
 use Rattle.answer.specs.declared.Answer.{Answer}
 use Rattle.answer.specs.declared.Step.{Step}
 use Rattle.text.specs.Field.{lengthIs, literalAt, twoDigits, fourDigits}
-
--- the check number of a kind's step: the kind times 100 and the step's position
-abbrev pub check : ℕ → ℕ → ℕ
-check kind k = 100 * kind + k
 
 abbrev hyphen : ℕ
 hyphen = 0x2D

@@ -1,20 +1,18 @@
 -- ISO 8601:2004, 4.3.2, a date and the time of day in extended format with its zone: `T`, hh:mm:ss (4.2.2.2), a decimal fraction (4.2.2.4),
--- and `Z` (4.2.4) or the difference to UTC (4.2.5.1). Document 01, kind 5, asks for the zone, and has no hour 24 and no second 60.
--- Assumes nothing.
+-- and `Z` (4.2.4) or the difference to UTC (4.2.5.1). SCOPE, kind 5, asks for the zone, and has no hour 24 and no second 60.
 use Prim.Native.Nat.{ℕ, suc, _+_}
-use mathlib.Core.Bool.{Bool}
+use mathlib.Core.Bool.{Bool, _||_, cond}
 use mathlib.Core.List.{List, [], _∷_}
 use lib.Dec.{eqb, leb, ltb}
 use lib.ListN.{length, getD, drop}
-use Rattle.answer.specs.Choice.{either, pick}
-use Rattle.answer.specs.Steps.{must, _andThen_, _orAccept_}
+use Rattle.answer.specs.Steps.{check, must, _andThen_, _orAccept_}
 use Rattle.answer.specs.declared.Answer.{Answer}
 use Rattle.answer.specs.declared.Reason.the-variants.{Length, Wrong, Missing, Trailing}
 use Rattle.answer.specs.declared.Step.{Step}
 use Rattle.answer.specs.declared.Step.the-variants.{Pass}
 use Rattle.text.specs.Class.{isDigit}
 use Rattle.text.specs.Field.{literalAt, twoDigits}
-use Rattle.datetime.specs.Date.{check, datePart}
+use Rattle.datetime.specs.Date.{datePart}
 
 abbrev letterT : ℕ
 letterT = 0x54
@@ -25,17 +23,17 @@ letterZ = 0x5A
 abbrev colon : ℕ
 colon = 0x3A
 
-abbrev dot : ℕ
-dot = 0x2E
+abbrev point : ℕ
+point = 0x2E
 
 -- `+` or `-`
 abbrev pub isSign : ℕ → Bool
-isSign b = either (eqb b 0x2B) (eqb b 0x2D)
+isSign b = eqb b 0x2B || eqb b 0x2D
 
 -- how many digits a text begins with
 unfoldable pub digitRun : List ℕ → ℕ
 digitRun [] = 0
-digitRun (b ∷ s) = pick (isDigit b) (suc (digitRun s)) 0
+digitRun (b ∷ s) = cond (isDigit b) (suc (digitRun s)) 0
 
 -- the place after the digits that stand from a place on
 unfoldable pub digitsEnd : List ℕ → ℕ → ℕ
@@ -43,7 +41,7 @@ digitsEnd s at = at + digitRun (drop at s)
 
 -- the zone stands after the fraction, or, where byte 19 is no `.`, after the seconds
 unfoldable pub zonePlace : List ℕ → ℕ
-zonePlace s = pick (eqb (getD s 19 0) dot) (digitsEnd s 20) 19
+zonePlace s = cond (eqb (getD s 19 0) point) (digitsEnd s 20) 19
 
 -- at least n bytes
 unfoldable pub lengthFrom : ℕ → List ℕ → ℕ → Step
@@ -61,7 +59,7 @@ clockPart s kind =
 
 -- after `.` at least one digit
 unfoldable pub fractionPart : List ℕ → ℕ → Step
-fractionPart s kind = pick (eqb (getD s 19 0) dot) (must (isDigit (getD s 20 0)) (Missing 20) (check kind 19)) Pass
+fractionPart s kind = cond (eqb (getD s 19 0) point) (must (isDigit (getD s 20 0)) (Missing 20) (check kind 19)) Pass
 
 -- the field ends at a place
 unfoldable pub endsAt : List ℕ → ℕ → ℕ → Step
@@ -80,8 +78,8 @@ offsetPart s at kind =
 unfoldable pub zonePart : List ℕ → ℕ → ℕ → Step
 zonePart s at kind =
     must (ltb at (length s)) (Missing (length s)) (check kind 20)
-    andThen must (either (eqb (getD s at 0) letterZ) (isSign (getD s at 0))) (Wrong at) (check kind 21)
-    andThen pick (isSign (getD s at 0)) (offsetPart s (at + 1) kind) (endsAt s (at + 1) (check kind 28))
+    andThen must (eqb (getD s at 0) letterZ || isSign (getD s at 0)) (Wrong at) (check kind 21)
+    andThen cond (isSign (getD s at 0)) (offsetPart s (at + 1) kind) (endsAt s (at + 1) (check kind 28))
 
 -- what follows the date
 unfoldable pub timePart : List ℕ → ℕ → Step

@@ -1,15 +1,13 @@
 -- What the rule of a kind other than 1 accepts is ASCII, and so UTF-8: the rule may be asked before the field is looked at for UTF-8.
--- Assumes nothing.
 use Prim.Native.Nat.{ℕ, _≤_, _<_}
 use mathlib.Core.Path.{_≡_, refl, sym}
-use mathlib.Core.Bool.{Bool, true, false}
+use mathlib.Core.Bool.{Bool, true, false, cond}
 use mathlib.Core.List.{List}
 use mathlib.Core.Logic.{_≢_}
 use native.Mathlib.Omega.{arith}
 use borrow.Author.Tests.{le-leb, lt-leb, eq-eqb}
 use lib.Dec.{T, eqb, leb, eqb→eq, leb→le}
 use lib.ListN.{length}
-use Rattle.answer.specs.Choice.{pick}
 use Rattle.answer.specs.Steps.{_andThen_, _orAccept_}
 use Rattle.answer.specs.declared.Answer.{Answer}
 use Rattle.answer.specs.declared.Answer.the-variants.{Accepted, Refused}
@@ -33,7 +31,7 @@ use Rattle.common.proofs.Accepted.{cents-low, lenient-low}
 use Rattle.field.specs.Field.{fieldLimit, unknownStep, admission, ruleOf, answered, checkField}
 
 -- a line of the table of kinds, or the lines below it
-line-or : {P : Type 0} (t : Bool) (a b : Answer) (n : ℕ) → (T t → a ≡ Accepted n → P) → (b ≡ Accepted n → P) → pick t a b ≡ Accepted n → P
+line-or : {P : Type 0} (t : Bool) (a b : Answer) (n : ℕ) → (T t → a ≡ Accepted n → P) → (b ≡ Accepted n → P) → cond t a b ≡ Accepted n → P
 line-or true a b n f g = f tt
 line-or false a b n f g = g
 
@@ -48,7 +46,7 @@ module _ (kind : ℕ) (s : List ℕ) (n : ℕ) (other : kind ≢ 1) where
   Told : Type 0
   Told = T (within 1 10 kind) × Low s 0 (length s)
 
-  line : (k : ℕ) (a b : Answer) → T (within 1 10 k) → (a ≡ Accepted n → Low s 0 (length s)) → (b ≡ Accepted n → Told) → pick (eqb kind k) a b ≡ Accepted n → Told
+  line : (k : ℕ) (a b : Answer) → T (within 1 10 k) → (a ≡ Accepted n → Low s 0 (length s)) → (b ≡ Accepted n → Told) → cond (eqb kind k) a b ≡ Accepted n → Told
   unfolding Told
   line k a b t f g = line-or (eqb kind k) a b n (λ u e. (rw (eqb→eq kind k u) t, f e)) g
 

@@ -1,13 +1,11 @@
 -- What any field is answered fits a verdict: its place is below 2^16, and its value below 2^64.
--- Assumes nothing.
 use Prim.Native.Nat.{ℕ, _^_, _<_}
 use mathlib.Core.Path.{_≡_, refl}
-use mathlib.Core.Bool.{Bool, true, false}
+use mathlib.Core.Bool.{Bool, true, false, cond}
 use mathlib.Core.List.{List}
 use native.Mathlib.Omega.{arith}
 use lib.Dec.{leb, leb→le}
 use lib.ListN.{length}
-use Rattle.answer.specs.Choice.{pick}
 use Rattle.answer.specs.Steps.{must}
 use Rattle.answer.specs.declared.Answer.{Answer}
 use Rattle.answer.specs.declared.Reason.the-variants.{TooLong}
@@ -27,7 +25,7 @@ use Rattle.currency.proofs.Places.{currency-small}
 use Rattle.common.proofs.Places.{cents-small, lenient-small}
 use Rattle.field.specs.Field.{fieldLimit, admission, ruleOf, answered, checkField}
 
-pick-small : (t : Bool) (a b : Answer) → Small a → Small b → Small (pick t a b)
+pick-small : (t : Bool) (a b : Answer) → Small a → Small b → Small (cond t a b)
 pick-small true a b p q = p
 pick-small false a b p q = q
 

@@ -1,10 +1,9 @@
--- Document 01, "Answer numbers" and "The ten kinds": "Order for a field: 12, 11, 1, then the rule's steps. The first that fails answers."
--- Assumes nothing.
+-- SCOPE, "Answer numbers" and "The ten kinds": "Order for a field: 12, 11, 1, then the rule's steps. The first that fails answers."
 use Prim.Native.Nat.{ℕ}
 use mathlib.Core.List.{List, [], _∷_}
 use lib.Dec.{eqb, leb}
 use lib.ListN.{length}
-use Rattle.answer.specs.Choice.{pick}
+use mathlib.Core.Bool.{cond}
 use Rattle.answer.specs.Steps.{must, _andThen_, _orAccept_}
 use Rattle.answer.specs.declared.Answer.{Answer}
 use Rattle.answer.specs.declared.Answer.the-variants.{Refused}
@@ -62,7 +61,7 @@ kinds =
 
 abbrev pub ruleIn : List Kind → ℕ → List ℕ → Answer
 ruleIn [] n s = unknownStep n orAccept 0
-ruleIn (k ∷ ks) n s = pick (eqb n (k .number)) (k .rule s) (ruleIn ks n s)
+ruleIn (k ∷ ks) n s = cond (eqb n (k .number)) (k .rule s) (ruleIn ks n s)
 
 unfoldable pub ruleOf : ℕ → List ℕ → Answer
 ruleOf n s = ruleIn kinds n s

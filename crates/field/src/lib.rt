@@ -9,7 +9,7 @@ use answer::Step;
 // The longest field that a rule is asked about.
 pub const FIELD_LIMIT: usize = 1024;
 
-// Document 01's order for a field: 12, 11, 1. A field above the limit is not read.
+// SCOPE's order for a field: 12, 11, 1. A field above the limit is not read.
 fn admit(kind: u16, value: &[u8]) -> Step
     ensures { λ r. ⌜ r ≡ admission kind (now (value .entry)) ⌝ }
 {

@@ -1,5 +1,4 @@
 -- The class steps on the characters left are those on their text, with each place put back into the field.
--- Assumes nothing.
 use Prim.Native.Nat.{ℕ, zero, suc, _+_, _-_, _≤_}
 use mathlib.Core.Path.{_≡_, refl, sym, _∙_, ap}
 use mathlib.Core.Bool.{Bool, true, false}
@@ -9,7 +8,7 @@ use native.Mathlib.Omega.{arith}
 use lib.ListN.{length, take, drop, getD, length-drop}
 use lib.Seq.{drop-cons, take-all}
 use Rattle.answer.specs.Steps.{must, _andThen_}
-use Rattle.answer.specs.Table.{placeOfReason}
+use Rattle.answer.specs.Table.{rowOf}
 use Rattle.answer.specs.declared.Reason.the-variants.{Wrong}
 use Rattle.answer.specs.declared.Step.{Step}
 use Rattle.answer.specs.declared.Step.the-variants.{Pass, Stop}
@@ -25,7 +24,7 @@ use Rattle.iban.proofs.Lefts.{nobody, scalar-at, place-at, length-text}
 -- a step on the text, its place put back
 abbrev pub placed : List Left → Step → Step
 placed l Pass = Pass
-placed l (Stop r k) = Stop (Wrong (placeIn (placeOfReason r) l)) k
+placed l (Stop r k) = Stop (Wrong (placeIn (rowOf r .place) l)) k
 
 placed-then : (l : List Left) (a b : Step) → placed l (a andThen b) ≡ placed l a andThen placed l b
 unfolding _andThen_

@@ -1,11 +1,9 @@
 -- What the rule of an IBAN says fits a verdict: the characters left are no more than the field's bytes, and each stands within them.
--- Assumes nothing.
 use Prim.Native.Nat.{ℕ, zero, suc, pred, _+_, _^_, _≤_, _<_}
-use mathlib.Core.Bool.{Bool, true, false}
+use mathlib.Core.Bool.{Bool, true, false, cond}
 use mathlib.Core.List.{List, [], _∷_}
 use native.Mathlib.Omega.{arith}
 use lib.ListN.{length, take, drop}
-use Rattle.answer.specs.Choice.{pick}
 use Rattle.answer.specs.declared.Reason.the-variants.{Wrong}
 use Rattle.text.proofs.Near.{Near, Small, Short, near-pass, near-must, near-then, nears}
 use Rattle.utf8.specs.Chars.{Ch, then, charsPast, chars, widths, validPrefix}
@@ -43,8 +41,8 @@ from-near at (c ∷ cs) h = go (whiteSpace (c .scalar)) (from-near (at + c .widt
     rest = leftFrom (at + c .width) cs
 
     go : (t : Bool) → (length rest ≤ length cs) × Placed rest
-        → (length (pick t rest (record { place = at; scalar = c .scalar } ∷ rest)) ≤ suc (length cs))
-        × Placed (pick t rest (record { place = at; scalar = c .scalar } ∷ rest))
+        → (length (cond t rest (record { place = at; scalar = c .scalar } ∷ rest)) ≤ suc (length cs))
+        × Placed (cond t rest (record { place = at; scalar = c .scalar } ∷ rest))
     go true p = (omega arith, p .1)
     go false p = (omega arith, (omega arith, p .1))
 

@@ -1,5 +1,4 @@
 -- From the first pass and the class steps on the held text to the definition: what is held, and the answer.
--- Assumes nothing.
 use Prim.Native.Nat.{ℕ, _-_, _≤_}
 use mathlib.Core.Path.{_≡_, refl, sym, _∙_, ap}
 use mathlib.Core.Bool.{Bool, true, false}
@@ -8,7 +7,7 @@ use native.Mathlib.Omega.{arith}
 use lib.Dec.{T}
 use lib.ListN.{length, take}
 use Rattle.answer.specs.Steps.{must, _andThen_, _orAccept_}
-use Rattle.answer.specs.Table.{placeOfReason}
+use Rattle.answer.specs.Table.{rowOf}
 use Rattle.answer.specs.declared.Answer.the-variants.{Refused}
 use Rattle.answer.specs.declared.Reason.{Reason}
 use Rattle.answer.specs.declared.Reason.the-variants.{Length, Wrong}
@@ -80,7 +79,7 @@ module _ (s : List ℕ) (h : Held) (o : Keeps s h) where
     unfolding heldOf heldBy
     held-whole e = rw (w .first, by-class, e, w .text, w .count, ← length-text (left s))
 
-    pub held-wrong : (r : Reason) (k : ℕ) → x ≡ Stop r k → heldBy (Stop (Wrong (placeIn (placeOfReason r) (left s))) k) [] ≡ heldOf s
+    pub held-wrong : (r : Reason) (k : ℕ) → x ≡ Stop r k → heldBy (Stop (Wrong (placeIn (rowOf r .place) (left s))) k) [] ≡ heldOf s
     unfolding heldOf heldBy
     held-wrong r k e = rw (w .first, by-class, e)
 

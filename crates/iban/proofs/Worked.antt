@@ -1,5 +1,4 @@
--- Worked examples of document 01, kind 1: its table, blanks of several widths, and a refusal of each step.
--- Assumes nothing.
+-- Worked examples of SCOPE, kind 1: its table, blanks of several widths, and a refusal of each step.
 use Prim.Native.Nat.{ℕ}
 use mathlib.Core.Path.{_≡_, refl}
 use mathlib.Core.List.{List, [], _∷_, _++_, map}
@@ -13,7 +12,7 @@ use Rattle.utf8.specs.Rfc3629.{leadOf, needed, wellFormed, scalarOf, charOf, fr
 use Rattle.utf8.specs.Chars.{charsPast}
 use Rattle.utf8.specs.Space.{whiteSpace}
 use Rattle.checkdigit.specs.Letter.{letterValue}
-use Rattle.checkdigit.specs.Sum.{valueOf, digitsOf, expand, remainderOf, rearranged, ibanRemainder}
+use Rattle.checkdigit.specs.Sum.{characterValue, characterDigits, expand, remainderOf, rearranged, ibanRemainder}
 use Rattle.checkdigit.specs.Verdict.{remainderStep}
 use Rattle.iban.specs.Left.{leftFrom, left, textOf}
 use Rattle.iban.specs.Iban.{each, countStep, classSteps, ibanCharacters, ibanAnswer}
@@ -62,5 +61,5 @@ pub worked : map ibanAnswer fields
     ∷ Refused (Wrong 1) 103
     ∷ Refused (Wrong 4) 105
     ∷ []
-unfolding classOf decimal leadOf needed wellFormed scalarOf charOf front charsPast whiteSpace letterValue valueOf digitsOf expand remainderOf rearranged ibanRemainder remainderStep leftFrom left textOf each countStep classSteps ibanCharacters ibanAnswer _andThen_ _orAccept_
+unfolding classOf decimal leadOf needed wellFormed scalarOf charOf front charsPast whiteSpace letterValue characterValue characterDigits expand remainderOf rearranged ibanRemainder remainderStep leftFrom left textOf each countStep classSteps ibanCharacters ibanAnswer _andThen_ _orAccept_
 worked = refl

@@ -1,8 +1,7 @@
--- Document 01, kind 1: "Drop every White_Space character": the characters that are left of a field, each with its place in it.
--- Assumes nothing.
+-- SCOPE, kind 1: "Drop every White_Space character": the characters that are left of a field, each with its place in it.
 use Prim.Native.Nat.{ℕ, zero, suc, _+_}
 use mathlib.Core.List.{List, [], _∷_, map}
-use Rattle.answer.specs.Choice.{pick}
+use mathlib.Core.Bool.{cond}
 use Rattle.utf8.specs.Chars.{Ch, chars}
 use Rattle.utf8.specs.Space.{whiteSpace}
 
@@ -15,7 +14,7 @@ pub record Left : Type 0 where
 unfoldable pub leftFrom : ℕ → List Ch → List Left
 leftFrom at [] = []
 leftFrom at (c ∷ cs) =
-    pick (whiteSpace (c .scalar)) (leftFrom (at + c .width) cs) (record { place = at; scalar = c .scalar } ∷ leftFrom (at + c .width) cs)
+    cond (whiteSpace (c .scalar)) (leftFrom (at + c .width) cs) (record { place = at; scalar = c .scalar } ∷ leftFrom (at + c .width) cs)
 
 unfoldable pub left : List ℕ → List Left
 left s = leftFrom 0 (chars s)

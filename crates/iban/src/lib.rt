@@ -195,7 +195,8 @@ pub fn hold(s: &[u8]) -> Held
                 text,
             },
             Step::Stop(reason, check) => {
-                let place = place_of(s, reason.place());
+                let numbers = reason.numbers();
+                let place = place_of(s, numbers.place);
                 refused(Reason::Wrong { place }, check)
             }
         },

@@ -1,5 +1,4 @@
 -- Laws of the program's state: one call on what is held, a move to the front, bytes read in, and what has led to a state.
--- Assumes nothing.
 use Prim.Native.Nat.{ℕ, zero, suc, _+_, _-_, _^_, _≤_, _<_}
 use mathlib.Core.Path.{_≡_, refl, sym, ap, subst, _∙_}
 use mathlib.Core.Bool.{true, false}
@@ -17,14 +16,14 @@ use Rattle.batch.specs.declared.Stop.{Stop}
 use Rattle.batch.specs.declared.Stop.the-variants.{Finished, Budget, Room, Cut, Offset, Long}
 use Rattle.report.specs.Text.{atStart}
 use Rattle.turn.specs.declared.Turned.{Turned}
-use Rattle.turn.specs.Turn.{roomOf, linesOf, Turning, turnOf, seen}
+use Rattle.turn.specs.Turn.{roomOf, callLines, Turning, turnOf, turningOf}
 use Rattle.turn.specs.Stream.{Event, more, call, Stream, started, called, next, feed}
 use Rattle.turn.proofs.Laws.{Sized, sized, goes, room-least, room-in}
 use Rattle.judge.specs.declared.State.{State}
 use Rattle.judge.specs.declared.Next.{Next}
-use Rattle.judge.specs.Run.{wayOf, held, Good, Is, budget, callWith, Judging, Shifted, Reached, Called, Led, passed, Moved, Roomy}
+use Rattle.judge.specs.Run.{wayOf, waiting, Good, Is, budget, callWith, Judging, Shifted, Reached, Called, Led, passed, Moved, Roomy}
 
-pub held-length : (buf : List ℕ) (s : State) → Good buf s → length (held buf s) ≡ s .end - s .at
+pub held-length : (buf : List ℕ) (s : State) → Good buf s → length (waiting buf s) ≡ s .end - s .at
 held-length buf s g = length-take-le (s .end - s .at) (drop (s .at) buf) (omega (arith, length-drop (s .at) buf, g .order, g .within))
 
 drop-take : (m n : ℕ) (l : List ℕ) → drop m (take n l) ≡ take (n - m) (drop m l)
@@ -39,15 +38,15 @@ left-held buf at end n = sym (drop-take n (end - at) (drop at buf) ∙ rw (drop-
 
 -- one call on what is held, from what `turn` ensures
 module _ (buf out text₀ : List ℕ) (s : State) (g : Good buf s) (r : Turned) (out₁ text₁ : List ℕ)
-    (q : seen r out₁ text₁ ≡ turnOf (held buf s) (s .offset) out text₀ budget) where
+    (q : turningOf r out₁ text₁ ≡ turnOf (waiting buf s) (s .offset) out text₀ budget) where
   abbrev c : Call
   c = callWith out text₀
 
   abbrev o : Outcome
-  o = callOf (held buf s) (s .offset) (c .out) (c .budget)
+  o = callOf (waiting buf s) (s .offset) (c .out) (c .budget)
 
-  z : Sized (held buf s) (s .offset) (c .out) o
-  z = sized (held buf s) (s .offset) (c .out) (c .budget)
+  z : Sized (waiting buf s) (s .offset) (c .out) o
+  z = sized (waiting buf s) (s .offset) (c .out) (c .budget)
 
   the-stop : r .stop ≡ o .stop
   unfolding turnOf
@@ -61,11 +60,11 @@ module _ (buf out text₀ : List ℕ) (s : State) (g : Good buf s) (r : Turned) 
   unfolding turnOf
   the-read = ap (λ (x : Turning). x .read) q
 
-  the-written : r .text ≡ length (linesOf o)
+  the-written : r .text ≡ length (callLines o)
   unfolding turnOf
   the-written = ap (λ (x : Turning). x .written) q
 
-  the-text : text₁ ≡ atStart (linesOf o) text₀
+  the-text : text₁ ≡ atStart (callLines o) text₀
   unfolding turnOf
   the-text = ap (λ (x : Turning). x .text) q
 
@@ -98,13 +97,13 @@ module _ (buf out text₀ : List ℕ) (s : State) (g : Good buf s) (r : Turned) 
       record {
         is = is-called;
         start = refl;
-        wrote = rw (the-text, the-written) (take-at (linesOf o) (drop (length (linesOf o)) text₀) (length (linesOf o)) refl);
-        inside = omega (arith, the-written, l, ap length the-text, length-append (linesOf o) (drop (length (linesOf o)) text₀), length-drop (length (linesOf o)) text₀);
+        wrote = rw (the-text, the-written) (take-at (callLines o) (drop (length (callLines o)) text₀) (length (callLines o)) refl);
+        inside = omega (arith, the-written, l, ap length the-text, length-append (callLines o) (drop (length (callLines o)) text₀), length-drop (length (callLines o)) text₀);
         none = λ e. omega (arith, z .none (sym the-stop ∙ e), the-read, held-length buf s g, g .order);
         short = λ e. omega (arith, z .short (sym the-stop ∙ e), the-read, held-length buf s g, g .order);
         later = omega arith;
         total = omega (arith, read-inside);
-        grew = λ v p. omega (arith, few, the-judged, goes (held buf s) (s .offset) (c .out) (c .budget) (omega arith) v (ap pauses (sym the-stop) ∙ p));
+        grew = λ v p. omega (arith, few, the-judged, goes (waiting buf s) (s .offset) (c .out) (c .budget) (omega arith) v (ap pauses (sym the-stop) ∙ p));
         good =
             record {
               order = read-inside;
@@ -157,7 +156,7 @@ shifted buf₀ buf s g l e =
     }
 
 -- the same state, with other bytes past those that are held
-is-moved : (S : Stream) (buf₀ buf : List ℕ) (s r : State) → held buf r ≡ held buf₀ s → r .start ≡ s .start → r .offset ≡ s .offset
+is-moved : (S : Stream) (buf₀ buf : List ℕ) (s r : State) → waiting buf r ≡ waiting buf₀ s → r .start ≡ s .start → r .offset ≡ s .offset
     → r .judged ≡ s .judged → r .stop ≡ s .stop → Is S buf₀ s → Is S buf r
 is-moved S buf₀ buf s r h a f j p i =
     record {
@@ -168,7 +167,7 @@ is-moved S buf₀ buf s r h a f j p i =
       stop = i .stop ∙ sym p;
     }
 
-pub called-moved : (buf₀ buf : List ℕ) (s r : State) → held buf r ≡ held buf₀ s → r .start ≡ s .start → r .offset ≡ s .offset
+pub called-moved : (buf₀ buf : List ℕ) (s r : State) → waiting buf r ≡ waiting buf₀ s → r .start ≡ s .start → r .offset ≡ s .offset
     → r .judged ≡ s .judged → r .stop ≡ s .stop → Good buf r → Called buf₀ s → Called buf r
 called-moved buf₀ buf s r h a f j p g k =
     record {
@@ -221,7 +220,7 @@ module _ (buf₀ buf₁ came : List ℕ) (s t : State) (k : Called buf₀ s) (h 
   abbrev read : List ℕ
   read = putMid (t .end) (length buf₁ - t .end) buf₁ came
 
-  still-held : held read t ≡ held buf₁ t
+  still-held : waiting read t ≡ waiting buf₁ t
   still-held = rw (h .at, sub-zero) (take-put (t .end) (length buf₁ - t .end) buf₁ came (h .good .within))
 
   same-size : length read ≡ length buf₁

@@ -1,5 +1,4 @@
 -- What is promised of the program: in the state from which it writes the last line, the stop and the totals are those of one call over all that was read in.
--- Assumes nothing.
 use Prim.Native.Nat.{ℕ, _+_, _^_, _<_}
 use mathlib.Core.Path.{_≡_, sym, ap, _∙_}
 use mathlib.Core.List.{List}

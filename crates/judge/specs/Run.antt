@@ -1,5 +1,4 @@
--- Document 01, "The batch": the program "goes on after 31, 32 or a record that only its buffer cuts, until the input ends or stop 35"; its state, as that of a run on lists.
--- Assumes nothing.
+-- SCOPE, "The batch": the program "goes on after 31, 32 or a record that only its buffer cuts, until the input ends or stop 35"; its state, as that of a run on lists.
 use Prim.Native.Nat.{ℕ, _+_, _-_, _≤_, _<_}
 use mathlib.Core.Path.{_≡_}
 use mathlib.Core.Bool.{true, false}
@@ -12,7 +11,7 @@ use Rattle.batch.specs.GoingOn.{pauses, Call}
 use Rattle.batch.specs.declared.Stop.{Stop}
 use Rattle.batch.specs.declared.Stop.the-variants.{Finished, Budget, Room, Cut, Offset, Long}
 use Rattle.report.specs.Text.{lineMost}
-use Rattle.turn.specs.Turn.{roomOf, linesOf}
+use Rattle.turn.specs.Turn.{roomOf, callLines}
 use Rattle.turn.specs.Stream.{Event, Stream, started, called, feed}
 use Rattle.judge.specs.declared.State.{State}
 use Rattle.judge.specs.declared.Next.{Next}
@@ -27,8 +26,8 @@ wayOf Offset = 2
 wayOf Long = 2
 
 -- what the buffer holds that is not judged yet
-abbrev pub held : List ℕ → State → List ℕ
-held buf s = take (s .end - s .at) (drop (s .at) buf)
+abbrev pub waiting : List ℕ → State → List ℕ
+waiting buf s = take (s .end - s .at) (drop (s .at) buf)
 
 -- a state that can be gone on from
 pub record Good (buf : List ℕ) (s : State) : Type 0 where
@@ -38,7 +37,7 @@ pub record Good (buf : List ℕ) (s : State) : Type 0 where
 
 -- a state of the program is a state of the run
 pub record Is (S : Stream) (buf : List ℕ) (s : State) : Type 0 where
-  pub bytes : S .held ≡ held buf s
+  pub bytes : S .held ≡ waiting buf s
   pub offset : S .offset ≡ s .offset
   pub judged : S .done .judged ≡ s .judged
   pub read : s .start + S .done .read ≡ s .offset
@@ -56,7 +55,7 @@ callWith out text = record { budget = budget; out = take (roomOf (length out) (l
 pub record Judging (buf : List ℕ) (c : Call) (text : List ℕ) (s r : State) (n : ℕ) : Type 0 where
   pub is : (S : Stream) → Is S buf s → Is (called c S) buf r
   pub start : r .start ≡ s .start
-  pub wrote : take n text ≡ linesOf (callOf (held buf s) (s .offset) (c .out) (c .budget))
+  pub wrote : take n text ≡ callLines (callOf (waiting buf s) (s .offset) (c .out) (c .budget))
   pub inside : n ≤ length text
   pub none : r .stop ≡ Finished → r .at ≡ r .end
   pub short : r .stop ≡ Cut → r .end < r .at + (4 + headLimit)
@@ -67,7 +66,7 @@ pub record Judging (buf : List ℕ) (c : Call) (text : List ℕ) (s r : State) (
 
 -- the same bytes are held, from the front on, and nothing else has changed
 pub record Shifted (buf₀ buf : List ℕ) (s r : State) : Type 0 where
-  pub same : held buf r ≡ held buf₀ s
+  pub same : waiting buf r ≡ waiting buf₀ s
   pub at : r .at ≡ 0
   pub end : r .end ≡ s .end - s .at
   pub start : r .start ≡ s .start

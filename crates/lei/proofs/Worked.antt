@@ -1,5 +1,4 @@
--- Worked examples of document 01, kind 2, and a wrong length, character and check digit.
--- Assumes nothing.
+-- Worked examples of SCOPE, kind 2, and a wrong length, character and check digit.
 use mathlib.Core.Path.{_≡_, refl}
 use mathlib.Core.List.{List, [], _∷_, map}
 use Prim.Native.String.{String}
@@ -11,7 +10,7 @@ use Rattle.text.specs.Decimal.{decimal}
 use Rattle.text.specs.Field.{lengthIs, firstWrong, wrongFrom}
 use Rattle.text.specs.Quote.{bytesOf}
 use Rattle.checkdigit.specs.Letter.{letterValue}
-use Rattle.checkdigit.specs.Sum.{valueOf, digitsOf, expand, remainderOf}
+use Rattle.checkdigit.specs.Sum.{characterValue, characterDigits, expand, remainderOf}
 use Rattle.checkdigit.specs.Verdict.{remainderStep}
 use Rattle.lei.specs.Lei.{leiCharacters, leiAnswer}
 
@@ -25,5 +24,5 @@ pub worked : map (λ t. leiAnswer (bytesOf t)) texts
     ∷ Refused (Wrong 4) 202
     ∷ Refused (Wrong 18) 203
     ∷ []
-unfolding classOf decimal lengthIs firstWrong wrongFrom letterValue valueOf digitsOf expand remainderOf remainderStep leiCharacters leiAnswer _andThen_ _orAccept_
+unfolding classOf decimal lengthIs firstWrong wrongFrom letterValue characterValue characterDigits expand remainderOf remainderStep leiCharacters leiAnswer _andThen_ _orAccept_
 worked = refl

@@ -1,9 +1,8 @@
--- Document 01, kind 2, and ISO 17442: an LEI has 20 characters, capitals and digits, of which the last two are the check digits of MOD 97-10
+-- SCOPE, kind 2, and ISO 17442: an LEI has 20 characters, capitals and digits, of which the last two are the check digits of MOD 97-10
 -- over the text as it stands.
--- Assumes nothing.
 use Prim.Native.Nat.{ℕ}
 use mathlib.Core.List.{List}
-use Rattle.answer.specs.Steps.{_andThen_, _orAccept_}
+use Rattle.answer.specs.Steps.{check, _andThen_, _orAccept_}
 use Rattle.answer.specs.declared.Answer.{Answer}
 use Rattle.answer.specs.declared.Step.{Step}
 use Rattle.text.specs.Field.{lengthIs, firstWrong}
@@ -13,8 +12,8 @@ use Rattle.checkdigit.specs.Verdict.{remainderStep}
 
 -- 20 bytes; the first character that is no capital and no digit; bytes 18 and 19 digits
 unfoldable pub leiCharacters : List ℕ → Step
-leiCharacters s = lengthIs 20 s 201 andThen firstWrong CapitalsDigits s 0 20 202 andThen firstWrong Digits s 18 20 203
+leiCharacters s = lengthIs 20 s (check 2 1) andThen firstWrong CapitalsDigits s 0 20 (check 2 2) andThen firstWrong Digits s 18 20 (check 2 3)
 
 -- .. and then the remainder
 unfoldable pub leiAnswer : List ℕ → Answer
-leiAnswer s = leiCharacters s andThen remainderStep (remainderOf s) 204 orAccept 1
+leiAnswer s = leiCharacters s andThen remainderStep (remainderOf s) (check 2 4) orAccept 1

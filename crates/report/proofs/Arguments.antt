@@ -1,5 +1,4 @@
 -- Laws of the program's argument: the search for a byte that is no digit passes just where there are only digits, and what the argument then is.
--- Assumes nothing.
 use Prim.Native.Nat.{ℕ, zero, suc, _+_, _-_, _<_, _^_}
 use mathlib.Core.Path.{_≡_, sym, _∙_}
 use mathlib.Core.List.{List, [], _∷_}
@@ -12,7 +11,7 @@ use lib.Seq.{take-length}
 use Rattle.answer.specs.declared.Reason.{Reason}
 use Rattle.answer.specs.declared.Step.the-variants.{Pass, Stop}
 use Rattle.text.specs.Class.{allowed, isDigit}
-use Rattle.text.specs.Decimal.{numberOf, fitted}
+use Rattle.text.specs.Decimal.{numberWritten, fitted}
 use Rattle.text.specs.Field.{wrongFrom, firstWrong}
 use Rattle.text.specs.declared.Set.{Set}
 use Rattle.text.specs.declared.Set.the-variants.{Digits}
@@ -49,11 +48,11 @@ module _ (t : List ℕ) (k : ℕ) where
   passes-only e = only t (λ j h. rw zero-add at (all-allowed Digits t 0 (length t) k (rw sub-zero at e) j h))
 
   -- digits write a number that their count bounds
-  pub only-most : T (digitsOnly t) → numberOf t < 10 ^ length t
+  pub only-most : T (digitsOnly t) → numberWritten t < 10 ^ length t
   unfolding firstWrong
   only-most p = rw take-length at (digits-most t 0 (length t) k (length t) (omega arith) (rw sub-zero at (only-passes p)))
 
-  pub given : (length t ≡ 0 → ⊥) → firstWrong Digits t 0 (length t) k ≡ Pass → offsetOf t ≡ within64 (fitted (numberOf t))
+  pub given : (length t ≡ 0 → ⊥) → firstWrong Digits t 0 (length t) k ≡ Pass → offsetOf t ≡ within64 (fitted (numberWritten t))
   unfolding offsetOf
   given h e = rw (lt-ltb 0 (length t) (omega arith), is-true (digitsOnly t) (passes-only e))
 

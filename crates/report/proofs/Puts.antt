@@ -1,5 +1,4 @@
 -- Laws of what is written into a buffer: one text after another, a byte after a text, and the digits and the byte of a field.
--- Assumes nothing.
 use Prim.Native.Nat.{ℕ, suc, _+_, _-_, _^_, _≤_, _<_}
 use mathlib.Core.Path.{_≡_, refl, sym, ap, _∙_}
 use mathlib.Core.List.{List, [], _∷_, _++_, append-assoc, append-nil}
@@ -10,8 +9,8 @@ use borrow.Author.Tests.{lt-ltb, le-ltb}
 use lib.ListN.{length, getD, take, drop, set, length-append, length-drop, drop-of-length-le}
 use lib.Seq.{take-all, take-length, take-at, set-at, sets-eq, drop-cons, drop-drop, drop-append-add, length-take-le}
 use Rattle.text.specs.Quote.{bytesOf}
-use Rattle.report.specs.Digits.{digitsOf}
-use Rattle.report.specs.Text.{field, row, named, lastLine, put, atStart, Put, lastMost, placed, ended}
+use Rattle.report.specs.Digits.{decimalDigits}
+use Rattle.report.specs.Text.{field, numbersLine, named, lastLine, put, atStart, Put, lastMost, placed, ended}
 use Rattle.report.proofs.Digits.{small, most}
 
 pub length-put : (at : ℕ) (t out : List ℕ) → at + length t ≤ length out → length (put at t out) ≡ length out
@@ -50,9 +49,9 @@ then at s t out₀ out₁ out₂ a b h p q =
 pub put-start : (t out₀ out : List ℕ) (r : ℕ) → Put 0 t out₀ out r → placed r out ≡ placed (length t) (atStart t out₀)
 put-start t out₀ out r p = rw (p .end, p .is, zero-add (length t))
 
-pub length-field : (x after : ℕ) → length (field x after) ≡ length (digitsOf x) + 1
+pub length-field : (x after : ℕ) → length (field x after) ≡ length (decimalDigits x) + 1
 unfolding field
-length-field x after = length-append (digitsOf x) (after ∷ [])
+length-field x after = length-append (decimalDigits x) (after ∷ [])
 
 pub field-most : (x after : ℕ) → x < 2 ^ 64 → length (field x after) ≤ 21
 field-most x after h = omega (arith, length-field x after, most 19 x (omega arith))
@@ -63,52 +62,52 @@ part-back at n last out = take at out ++ (last ++ drop n (drop at out))
 
 -- a field in a buffer
 module _ (at x after : ℕ) (out : List ℕ) (fits : at + length (field x after) ≤ length out) where
-  room : at + length (digitsOf x) < length out
+  room : at + length (decimalDigits x) < length out
   room = omega (arith, length-field x after)
 
   -- of one digit
   pub field-one : x < 10 → Put at (field x after) out (set (set out at (48 + x)) (at + 1) after) (at + 2)
   unfolding field
   field-one h =
-      let e : digitsOf x ≡ (48 + x) ∷ [] = small x h in
+      let e : decimalDigits x ≡ (48 + x) ∷ [] = small x h in
       record {
         end = rw e;
         is = rw (e, add-one) (sets-eq ((48 + x) ∷ after ∷ []) out at (rw e at fits) ∙ simp append-assoc);
       }
 
   -- of several, whose place is lent
-  module _ (w : ℕ) (last : List ℕ) (h : w ≡ length (digitsOf x)) (q : last ≡ digitsOf x) where
-    mid : part-back at (at + w - at) last out ≡ put at (digitsOf x) out
-    mid = let e : at + w - at ≡ length (digitsOf x) = omega arith in rw (e, q) (simp drop-drop)
+  module _ (w : ℕ) (last : List ℕ) (h : w ≡ length (decimalDigits x)) (q : last ≡ decimalDigits x) where
+    mid : part-back at (at + w - at) last out ≡ put at (decimalDigits x) out
+    mid = let e : at + w - at ≡ length (decimalDigits x) = omega arith in rw (e, q) (simp drop-drop)
 
     pub field-inside : at + w < length (part-back at (at + w - at) last out)
-    field-inside = rw (mid, h, length-put at (digitsOf x) out (omega (arith, room))) room
+    field-inside = rw (mid, h, length-put at (decimalDigits x) out (omega (arith, room))) room
 
     pub field-more : Put at (field x after) out (set (part-back at (at + w - at) last out) (at + w) after) (at + w + 1)
     unfolding field
     field-more =
         record {
-          end = omega (arith, h, length-append (digitsOf x) (after ∷ []));
-          is = rw (mid, h) (put-byte at (digitsOf x) out after room);
+          end = omega (arith, h, length-append (decimalDigits x) (after ∷ []));
+          is = rw (mid, h) (put-byte at (decimalDigits x) out after room);
         }
 
 -- a row has room, and is written number by number
 pub record Room (at : ℕ) (xs out : List ℕ) : Type 0 where
-  pub is : at + length (row xs) ≤ length out
+  pub is : at + length (numbersLine xs) ≤ length out
 
 pub row-first : {at x y : ℕ} {xs out : List ℕ} → Room at (x ∷ y ∷ xs) out → at + length (field x 32) ≤ length out
-unfolding row
-row-first {at} {x} {y} {xs} h = omega (arith, h .is, length-append (field x 32) (row (y ∷ xs)))
+unfolding numbersLine
+row-first {at} {x} {y} {xs} h = omega (arith, h .is, length-append (field x 32) (numbersLine (y ∷ xs)))
 
 pub row-rest : {at x y a : ℕ} {xs out out₁ : List ℕ} → Room at (x ∷ y ∷ xs) out → Put at (field x 32) out out₁ a → Room a (y ∷ xs) out₁
-unfolding row
+unfolding numbersLine
 row-rest {at} {x} {y} {a} {xs} {out} h p =
     record {
       is =
           omega (
             arith,
             h .is,
-            length-append (field x 32) (row (y ∷ xs)),
+            length-append (field x 32) (numbersLine (y ∷ xs)),
             p .end,
             ap length (p .is),
             length-put at (field x 32) out (row-first h),
@@ -116,12 +115,12 @@ row-rest {at} {x} {y} {a} {xs} {out} h p =
     }
 
 pub row-last : {at x : ℕ} {out : List ℕ} → Room at (x ∷ []) out → at + length (field x 10) ≤ length out
-unfolding row
+unfolding numbersLine
 row-last h = h .is
 
 pub row-then : {at x y a b : ℕ} {xs out out₁ out₂ : List ℕ} → Room at (x ∷ y ∷ xs) out → Put at (field x 32) out out₁ a
-    → Put a (row (y ∷ xs)) out₁ out₂ b → Put at (row (x ∷ y ∷ xs)) out out₂ b
-unfolding row
+    → Put a (numbersLine (y ∷ xs)) out₁ out₂ b → Put at (numbersLine (x ∷ y ∷ xs)) out out₂ b
+unfolding numbersLine
 row-then h p q = then _ _ _ _ _ _ _ _ (row-first h) p q
 
 -- a part that goes to the end, as `&l[w..]` gives it, and what is past it

@@ -1,8 +1,7 @@
 -- Laws of the lines: one line more, lines of verdicts and then of others, the longest line, how many have room, and the loop that writes them.
--- Assumes nothing.
 use Prim.Native.Nat.{ℕ, zero, suc, _+_, _-_, _*_, _/_, _≤_, _<_}
 use mathlib.Core.Path.{_≡_, refl, ap, _∙_}
-use mathlib.Core.Bool.{Bool, true, false}
+use mathlib.Core.Bool.{Bool, true, false, cond}
 use mathlib.Core.List.{List, [], _∷_, _++_, append-assoc, append-nil}
 use native.Mathlib.Nat.{zero-add, sub-zero}
 use native.Mathlib.Numerals.{add-one}
@@ -11,16 +10,15 @@ use borrow.Author.Tests.{lt-ltb, le-ltb}
 use lib.Dec.{ltb}
 use lib.ListN.{length, take, drop, length-append, length-drop}
 use lib.Seq.{take-at, drop-append-le, drop-drop}
-use Rattle.answer.specs.Choice.{pick}
-use Rattle.batch.specs.Number.{numberAt, Bytes}
+use Rattle.batch.specs.Number.{littleAt, Bytes}
 use Rattle.batch.specs.Verdict.{verdictSize}
 use Rattle.batch.proofs.Numbers.{number-append, bytes-drop, number-most}
 use Rattle.report.specs.declared.Rendered.{Rendered}
 use Rattle.report.specs.Text.{
   field,
-  row,
-  line,
-  text,
+  numbersLine,
+  verdictLine,
+  verdictLines,
   lastLine,
   atStart,
   Put,
@@ -30,7 +28,7 @@ use Rattle.report.specs.Text.{
   Rendering,
   rendering,
   rendered,
-  seen,
+  renderingOf,
   Placed,
   placed,
   ended,
@@ -38,16 +36,16 @@ use Rattle.report.specs.Text.{
 use Rattle.report.proofs.Digits.{most}
 use Rattle.report.proofs.Puts.{length-field, to-end, then}
 
-pub text-snoc : (k : ℕ) (v : List ℕ) → text (suc k) v ≡ text k v ++ line (drop (verdictSize * k) v)
-unfolding text
-text-snoc zero v = append-nil (line v)
+pub text-snoc : (k : ℕ) (v : List ℕ) → verdictLines (suc k) v ≡ verdictLines k v ++ verdictLine (drop (verdictSize * k) v)
+unfolding verdictLines
+text-snoc zero v = append-nil (verdictLine v)
 text-snoc (suc k) v =
     let e : verdictSize + verdictSize * k ≡ verdictSize * suc k = omega arith in
-    ap (λ (l : List ℕ). line v ++ l) (text-snoc k (drop verdictSize v)) ∙ simp (append-assoc, drop-drop, e)
+    ap (λ (l : List ℕ). verdictLine v ++ l) (text-snoc k (drop verdictSize v)) ∙ simp (append-assoc, drop-drop, e)
 
 -- a line needs its verdict only
-pub line-front : (v w : List ℕ) → verdictSize ≤ length v → line (v ++ w) ≡ line v
-unfolding line
+pub line-front : (v w : List ℕ) → verdictSize ≤ length v → verdictLine (v ++ w) ≡ verdictLine v
+unfolding verdictLine
 line-front v w h =
     rw (
       number-append v w 4 8 (omega arith),
@@ -62,8 +60,8 @@ no-bytes [] h = refl
 no-bytes (x ∷ v) h = absurd (omega arith)
 
 -- the lines of verdicts and then of others
-pub text-append : (j k : ℕ) (v w : List ℕ) → length v ≡ verdictSize * j → text (j + k) (v ++ w) ≡ text j v ++ text k w
-unfolding text
+pub text-append : (j k : ℕ) (v w : List ℕ) → length v ≡ verdictSize * j → verdictLines (j + k) (v ++ w) ≡ verdictLines j v ++ verdictLines k w
+unfolding verdictLines
 text-append zero k v w h = rw (zero-add, no-bytes v (omega arith))
 text-append (suc j) k v w h =
     let e : suc j + k ≡ suc (j + k) = omega arith in
@@ -76,19 +74,19 @@ text-append (suc j) k v w h =
     (simp append-assoc)
 
 length-row : (a b c d e : ℕ)
-    → length (row (a ∷ b ∷ c ∷ d ∷ e ∷ []))
+    → length (numbersLine (a ∷ b ∷ c ∷ d ∷ e ∷ []))
     ≡ length (field a 32) + (length (field b 32) + (length (field c 32) + (length (field d 32) + length (field e 10))))
-unfolding row
+unfolding numbersLine
 length-row a b c d e = simp length-append
 
-pub line-most : (v : List ℕ) → Bytes v → length (line v) ≤ lineMost
-unfolding line
+pub line-most : (v : List ℕ) → Bytes v → length (verdictLine v) ≤ lineMost
+unfolding verdictLine
 line-most v b =
-    let o = numberAt v 4 8 in
-    let k = numberAt v 2 2 in
-    let a = numberAt v 12 1 in
-    let p = numberAt v 14 2 in
-    let n = numberAt v 16 8 in
+    let o = littleAt v 4 8 in
+    let k = littleAt v 2 2 in
+    let a = littleAt v 12 1 in
+    let p = littleAt v 14 2 in
+    let n = littleAt v 16 8 in
     omega (
       arith,
       length-row o k a p n,
@@ -111,7 +109,7 @@ fit-none zero room v h = refl
 fit-none (suc n) room v h = rw (lt-ltb room lineMost h)
 
 pub fit-on : (n room : ℕ) (v : List ℕ) → lineMost ≤ room
-    → fitting (suc n) room v ≡ suc (fitting n (room - length (line v)) (drop verdictSize v))
+    → fitting (suc n) room v ≡ suc (fitting n (room - length (verdictLine v)) (drop verdictSize v))
 unfolding fitting
 fit-on n room v h = rw (le-ltb room lineMost h)
 
@@ -121,7 +119,7 @@ unfolding fitting
 fit-all zero room v b h = refl
 fit-all (suc n) room v b h =
     fit-on n room v (omega arith)
-    ∙ ap suc (fit-all n (room - length (line v)) (drop verdictSize v) (bytes-drop v verdictSize b) (omega (arith, line-most v b)))
+    ∙ ap suc (fit-all n (room - length (verdictLine v)) (drop verdictSize v) (bytes-drop v verdictSize b) (omega (arith, line-most v b)))
 
 pub rendered-all : (j : ℕ) (v out : List ℕ) → Bytes v → length v ≡ verdictSize * j → lineMost * j ≤ length out → rendered v out ≡ rendering j v out
 unfolding rendered
@@ -138,11 +136,11 @@ start-inside t out₀ out e h =
     omega (arith, ap length e, length-append t (drop (length t) out₀), length-drop (length t) out₀)
 
 -- what a call of `lines` has left, from its contract
-module _ (r : Rendered) (v out₀ out : List ℕ) (is : seen r out ≡ rendered v out₀) where
+module _ (r : Rendered) (v out₀ out : List ℕ) (is : renderingOf r out ≡ rendered v out₀) where
   abbrev lines-text : List ℕ
-  lines-text = text (fitting (length v / verdictSize) (length out₀) v) v
+  lines-text = verdictLines (fitting (length v / verdictSize) (length out₀) v) v
 
-  pub lines-front : take (r .written) out ≡ text (r .verdicts) v
+  pub lines-front : take (r .written) out ≡ verdictLines (r .verdicts) v
   unfolding rendered
   lines-front =
       rw (ap (λ (x : Rendering). x .verdicts) is, ap (λ (x : Rendering). x .written) is, ap (λ (x : Rendering). x .out) is)
@@ -168,7 +166,7 @@ module _ (r stop judged read : ℕ) (out₀ out : List ℕ) (is : placed r out �
     where
       go : (b : Bool)
           → placed r out
-          ≡ pick b (placed 0 out₀) (placed (length (lastLine stop judged read)) (atStart (lastLine stop judged read) out₀)) → r ≤ length out
+          ≡ cond b (placed 0 out₀) (placed (length (lastLine stop judged read)) (atStart (lastLine stop judged read) out₀)) → r ≤ length out
       go true e = omega (arith, ap (λ (x : Placed). x .written) e)
       go false e =
           rw (ap (λ (x : Placed). x .written) e)
@@ -180,12 +178,12 @@ pub record Lining (v out₀ out : List ℕ) (k i at : ℕ) : Type 0 where
   pub within : i ≤ length v
   pub room : at ≤ length out₀
   pub same : length out ≡ length out₀
-  pub wrote : Put 0 (text k v) out₀ out at
+  pub wrote : Put 0 (verdictLines k v) out₀ out at
   pub rest : fitting (length v / verdictSize) (length out₀) v
       ≡ k + fitting (length v / verdictSize - k) (length out₀ - at) (drop i v)
 
 pub start-lines : (v out : List ℕ) → Lining v out out 0 0 0
-unfolding text
+unfolding verdictLines
 start-lines v out =
     record {
       place = refl;
@@ -198,40 +196,40 @@ start-lines v out =
 
 module _ (v out₀ out : List ℕ) (k i at : ℕ) (g : Lining v out₀ out k i at) where
   end-lines : fitting (length v / verdictSize - k) (length out₀ - at) (drop i v) ≡ 0
-      → seen (record { verdicts = k; written = at }) out ≡ rendered v out₀
+      → renderingOf (record { verdicts = k; written = at }) out ≡ rendered v out₀
   unfolding rendered
   end-lines z =
       let e : fitting (length v / verdictSize) (length out₀) v ≡ k = omega (arith, g .rest) in
-      rw (e, g .wrote .end, g .wrote .is, zero-add (length (text k v)))
+      rw (e, g .wrote .end, g .wrote .is, zero-add (length (verdictLines k v)))
 
   -- no whole verdict is left
-  pub no-more : length v - i < verdictSize → seen (record { verdicts = k; written = at }) out ≡ rendered v out₀
+  pub no-more : length v - i < verdictSize → renderingOf (record { verdicts = k; written = at }) out ≡ rendered v out₀
   unfolding fitting
   no-more h =
       let e : length v / verdictSize - k ≡ 0 = omega (arith, g .place) in
       end-lines (rw e)
 
   -- there is no room for a line
-  pub no-room : length out - at < lineMost → seen (record { verdicts = k; written = at }) out ≡ rendered v out₀
+  pub no-room : length out - at < lineMost → renderingOf (record { verdicts = k; written = at }) out ≡ rendered v out₀
   no-room h = end-lines (fit-none _ _ (drop i v) (omega (arith, g .same)))
 
   module _ (bytes : Bytes v) (h : verdictSize ≤ length v - i) (free : lineMost ≤ length out - at) where
     here : take (length v - i) (drop i v) ≡ drop (verdictSize * k) v
     here = to-end i v ∙ rw (g .place)
 
-    short : length (line (take (length v - i) (drop i v))) ≤ lineMost
+    short : length (verdictLine (take (length v - i) (drop i v))) ≤ lineMost
     short = rw here (line-most (drop (verdictSize * k) v) (bytes-drop v (verdictSize * k) bytes))
 
     pub line-requires : (verdictSize ≤ length (take (length v - i) (drop i v)))
-        × (at + length (line (take (length v - i) (drop i v))) ≤ length out)
+        × (at + length (verdictLine (take (length v - i) (drop i v))) ≤ length out)
     line-requires = (rw to-end (omega (arith, length-drop i v)), omega (arith, short))
 
-    pub line-again : (last : List ℕ) (r : ℕ) → length last ≡ length out → Put at (line (take (length v - i) (drop i v))) out last r
+    pub line-again : (last : List ℕ) (r : ℕ) → length last ≡ length out → Put at (verdictLine (take (length v - i) (drop i v))) out last r
         → Lining v out₀ last (k + 1) (i + verdictSize) r
     line-again last r l p =
         let n = length v / verdictSize in
         let a : n - k ≡ suc (n - (k + 1)) = omega (arith, g .place) in
-        let b : length out₀ - at - length (line (drop i v)) ≡ length out₀ - r = omega (arith, rw to-end at (p .end)) in
+        let b : length out₀ - at - length (verdictLine (drop i v)) ≡ length out₀ - r = omega (arith, rw to-end at (p .end)) in
         let f = fit-on (n - (k + 1)) (length out₀ - at) (drop i v) (omega (arith, g .same)) in
         record {
           place = omega (arith, g .place);
@@ -240,6 +238,6 @@ module _ (v out₀ out : List ℕ) (k i at : ℕ) (g : Lining v out₀ out k i a
           same = l ∙ g .same;
           wrote =
               rw (add-one, text-snoc)
-              (then 0 (text k v) (line (drop (verdictSize * k) v)) out₀ out last at r (omega (arith, g .wrote .end, g .room)) (g .wrote) (rw here at p));
+              (then 0 (verdictLines k v) (verdictLine (drop (verdictSize * k) v)) out₀ out last at r (omega (arith, g .wrote .end, g .room)) (g .wrote) (rw here at p));
           rest = g .rest ∙ rw (a, f, b, drop-drop) (omega arith);
         }

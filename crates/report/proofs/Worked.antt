@@ -1,19 +1,18 @@
--- Worked examples: document 01's text from its verdicts, the least and the greatest number, buffers just long enough and one byte shorter, arguments.
--- Assumes nothing.
+-- Worked examples: SCOPE's text from its verdicts, the least and the greatest number, buffers just long enough and one byte shorter, arguments.
 use Prim.Native.Nat.{ℕ, zero, suc, _-_, _^_}
 use mathlib.Core.Path.{_≡_, refl}
 use mathlib.Core.List.{List, [], _∷_, _++_, map}
 use Rattle.text.specs.Class.{classOf}
-use Rattle.text.specs.Decimal.{decimal, numberOf, fitted}
+use Rattle.text.specs.Decimal.{decimal, numberWritten, fitted}
 use Rattle.text.specs.Quote.{bytesOf}
 use Rattle.report.specs.declared.Offset.{Offset}
 use Rattle.report.specs.declared.Offset.the-variants.{Is, Not}
-use Rattle.report.specs.Digits.{digitsIn, digitsOf}
+use Rattle.report.specs.Digits.{decimalDigitsIn, decimalDigits}
 use Rattle.report.specs.Text.{
   field,
-  row,
-  line,
-  text,
+  numbersLine,
+  verdictLine,
+  verdictLines,
   heading,
   named,
   lastLine,
@@ -26,7 +25,7 @@ use Rattle.report.specs.Text.{
 }
 use Rattle.report.specs.Offset.{offsetOf}
 
--- the verdicts of document 01's two records
+-- the verdicts of SCOPE's two records
 abbrev verdicts : List ℕ
 verdicts =
     0x14 ∷ 0 ∷ 7 ∷ 0 ∷ 0 ∷ 0 ∷ 0 ∷ 0 ∷ 0 ∷ 0 ∷ 0 ∷ 0 ∷ 0 ∷ 0 ∷ 0 ∷ 0 ∷ 0 ∷ 0 ∷ 0 ∷ 0 ∷ 0 ∷ 0 ∷ 0 ∷ 0
@@ -34,10 +33,10 @@ verdicts =
 
 -- its whole text
 abbrev whole : List ℕ
-whole = heading ++ (text 2 verdicts ++ lastLine 0 2 17)
+whole = heading ++ (verdictLines 2 verdicts ++ lastLine 0 2 17)
 
 abbrev ends : List (List ℕ)
-ends = digitsOf 0 ∷ digitsOf 18446744073709551615 ∷ []
+ends = decimalDigits 0 ∷ decimalDigits 18446744073709551615 ∷ []
 
 -- n dots
 abbrev dots : ℕ → List ℕ
@@ -64,5 +63,5 @@ pub worked : (whole ≡ bytesOf "offset kind answer place number\n0 7 0 0 0\n6 9
     ∷ [])
     × (lasts ≡ placed 0 (dots 79) ∷ placed 24 (bytesOf "stop 0 judged 2 read 17\n" ++ dots 56) ∷ [])
     × (offsets ≡ Is 0 ∷ Is 42 ∷ Is (2 ^ 64 - 1) ∷ Not ∷ Not ∷ Not ∷ Not ∷ Not ∷ Not ∷ Not ∷ [])
-unfolding digitsIn digitsOf field row line text heading named lastLine fitting rendered ended offsetOf classOf fitted numberOf decimal
+unfolding decimalDigitsIn decimalDigits field numbersLine verdictLine verdictLines heading named lastLine fitting rendered ended offsetOf classOf fitted numberWritten decimal
 worked = (refl, refl, refl, refl, refl)

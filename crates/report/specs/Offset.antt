@@ -1,14 +1,12 @@
--- The program's argument: the stream offset of its input's first byte (document 01, "The batch"), as one or more ASCII digits that write a number
+-- The program's argument: the stream offset of its input's first byte (SCOPE, "The batch"), as one or more ASCII digits that write a number
 -- below 2^64.
--- Assumes nothing.
 use Prim.Native.Nat.{ℕ}
-use mathlib.Core.Bool.{Bool, true}
+use mathlib.Core.Bool.{Bool, true, _&&_, cond}
 use mathlib.Core.List.{List, [], _∷_}
 use lib.Dec.{ltb}
 use lib.ListN.{length}
-use Rattle.answer.specs.Choice.{both, pick}
 use Rattle.text.specs.Class.{isDigit}
-use Rattle.text.specs.Decimal.{numberOf, fitted}
+use Rattle.text.specs.Decimal.{numberWritten, fitted}
 use Rattle.text.specs.declared.Number.{Number}
 use Rattle.text.specs.declared.Number.the-variants.{Fits, Over}
 use Rattle.report.specs.declared.Offset.{Offset}
@@ -16,7 +14,7 @@ use Rattle.report.specs.declared.Offset.the-variants.{Is, Not}
 
 abbrev pub digitsOnly : List ℕ → Bool
 digitsOnly [] = true
-digitsOnly (b ∷ t) = both (isDigit b) (digitsOnly t)
+digitsOnly (b ∷ t) = isDigit b && digitsOnly t
 
 abbrev pub within64 : Number → Offset
 within64 (Fits n) = Is n
@@ -24,4 +22,4 @@ within64 Over = Not
 
 -- no sign, no blank
 unfoldable pub offsetOf : List ℕ → Offset
-offsetOf t = pick (both (ltb 0 (length t)) (digitsOnly t)) (within64 (fitted (numberOf t))) Not
+offsetOf t = cond (ltb 0 (length t) && digitsOnly t) (within64 (fitted (numberWritten t))) Not

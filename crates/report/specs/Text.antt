@@ -1,45 +1,44 @@
--- The program's text, after document 01, "The batch": the heading, a line for each verdict, and the last line.
--- Assumes nothing.
+-- The program's text, after SCOPE, "The batch": the heading, a line for each verdict, and the last line.
 use Prim.Native.Nat.{ℕ, zero, suc, _+_, _-_, _/_}
 use mathlib.Core.Path.{_≡_}
 use mathlib.Core.List.{List, [], _∷_, _++_}
 use lib.Dec.{ltb}
 use lib.ListN.{length, take, drop}
-use Rattle.answer.specs.Choice.{pick}
+use mathlib.Core.Bool.{cond}
 use Rattle.text.specs.Quote.{bytesOf}
-use Rattle.batch.specs.Number.{numberAt}
+use Rattle.batch.specs.Number.{littleAt}
 use Rattle.batch.specs.Verdict.{verdictSize}
 use Rattle.report.specs.declared.Rendered.{Rendered}
-use Rattle.report.specs.Digits.{digitsOf}
+use Rattle.report.specs.Digits.{decimalDigits}
 
 -- what the verdict at the start of v says
 abbrev pub numbers : List ℕ → List ℕ
 numbers v =
-    numberAt v 4 8 ∷  -- offset
-    numberAt v 2 2 ∷  -- kind
-    numberAt v 12 1 ∷  -- answer
-    numberAt v 14 2 ∷  -- place
-    numberAt v 16 8 ∷  -- number
+    littleAt v 4 8 ∷  -- offset
+    littleAt v 2 2 ∷  -- kind
+    littleAt v 12 1 ∷  -- answer
+    littleAt v 14 2 ∷  -- place
+    littleAt v 16 8 ∷  -- number
     []
 
 -- a number and the byte after it
 unfoldable pub field : ℕ → ℕ → List ℕ
-field x after = digitsOf x ++ (after ∷ [])
+field x after = decimalDigits x ++ (after ∷ [])
 
 -- numbers with a space between them and a newline after the last
-unfoldable pub row : List ℕ → List ℕ
-row [] = []
-row (x ∷ []) = field x 10
-row (x ∷ y ∷ xs) = field x 32 ++ row (y ∷ xs)
+unfoldable pub numbersLine : List ℕ → List ℕ
+numbersLine [] = []
+numbersLine (x ∷ []) = field x 10
+numbersLine (x ∷ y ∷ xs) = field x 32 ++ numbersLine (y ∷ xs)
 
 -- the line of the verdict at the start of v
-unfoldable pub line : List ℕ → List ℕ
-line v = row (numbers v)
+unfoldable pub verdictLine : List ℕ → List ℕ
+verdictLine v = numbersLine (numbers v)
 
 -- the lines of the first k verdicts
-unfoldable pub text : ℕ → List ℕ → List ℕ
-text zero v = []
-text (suc k) v = line v ++ text k (drop verdictSize v)
+unfoldable pub verdictLines : ℕ → List ℕ → List ℕ
+verdictLines zero v = []
+verdictLines (suc k) v = verdictLine v ++ verdictLines k (drop verdictSize v)
 
 unfoldable pub heading : List ℕ
 heading = bytesOf "offset kind answer place number\n"
@@ -75,7 +74,7 @@ lastMost = 80
 -- how many of n verdicts are written: a line is where the longest line has room
 unfoldable pub fitting : ℕ → ℕ → List ℕ → ℕ
 fitting zero room v = 0
-fitting (suc n) room v = pick (ltb room lineMost) 0 (suc (fitting n (room - length (line v)) (drop verdictSize v)))
+fitting (suc n) room v = cond (ltb room lineMost) 0 (suc (fitting n (room - length (verdictLine v)) (drop verdictSize v)))
 
 -- what is done with a lent buffer: the verdicts whose lines stand at its start, the lines' bytes, and the whole buffer
 pub record Rendering : Type 0 where
@@ -85,14 +84,14 @@ pub record Rendering : Type 0 where
 
 -- the lines of the first k verdicts at the start of a buffer
 abbrev pub rendering : ℕ → List ℕ → List ℕ → Rendering
-rendering k v out = record { verdicts = k; written = length (text k v); out = atStart (text k v) out }
+rendering k v out = record { verdicts = k; written = length (verdictLines k v); out = atStart (verdictLines k v) out }
 
 -- as many of the whole verdicts as have room
 unfoldable pub rendered : List ℕ → List ℕ → Rendering
 rendered v out = rendering (fitting (length v / verdictSize) (length out) v) v out
 
-abbrev pub seen : Rendered → List ℕ → Rendering
-seen r out = record { verdicts = r .verdicts; written = r .written; out = out }
+abbrev pub renderingOf : Rendered → List ℕ → Rendering
+renderingOf r out = record { verdicts = r .verdicts; written = r .written; out = out }
 
 -- how many bytes of a buffer were written, and the whole buffer
 pub record Placed : Type 0 where
@@ -105,5 +104,5 @@ placed n out = record { written = n; out = out }
 -- the last line at the start of a buffer that has room for the longest; in a shorter one nothing is written
 unfoldable pub ended : List ℕ → ℕ → ℕ → ℕ → Placed
 ended out stop judged read =
-    pick (ltb (length out) lastMost) (placed 0 out)
+    cond (ltb (length out) lastMost) (placed 0 out)
     (placed (length (lastLine stop judged read)) (atStart (lastLine stop judged read) out))

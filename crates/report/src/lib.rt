@@ -4,16 +4,16 @@ ghost use Prim.Native.Nat.{_+_, _≤_};
 ghost use mathlib.Core.List.{[], _∷_};
 ghost use lib.ListN.{length};
 ghost use Rattle.batch.specs.Verdict.{verdictSize};
-ghost use Rattle.report.specs.Digits.{digitsOf};
+ghost use Rattle.report.specs.Digits.{decimalDigits};
 ghost use Rattle.report.specs.Text.{
   field,
-  row,
-  line,
+  numbersLine,
+  verdictLine,
   heading,
   named,
   Put,
   rendered,
-  seen,
+  renderingOf,
   placed,
   ended,
 };
@@ -41,7 +41,7 @@ pub enum Offset {
 
 // How many digits a number has.
 fn width(x: u64) -> usize
-    ensures { λ r. ⌜ r ≡ length (digitsOf x) ⌝ }
+    ensures { λ r. ⌜ r ≡ length (decimalDigits x) ⌝ }
 {
     let mut n = 1;
     let mut rest = x;
@@ -54,8 +54,8 @@ fn width(x: u64) -> usize
 
 // A number's digits, the last first, into a part of just their length.
 fn spell(d: &mut [u8], x: u64)
-    requires { ⌜ length (now d) ≡ length (digitsOf x) ⌝ }
-    ensures { λ _. ⌜ now (d .exit) ≡ digitsOf x ⌝ }
+    requires { ⌜ length (now d) ≡ length (decimalDigits x) ⌝ }
+    ensures { λ _. ⌜ now (d .exit) ≡ decimalDigits x ⌝ }
 {
     let mut i = d.len();
     let mut rest = x;
@@ -92,8 +92,8 @@ fn put_row(
     place: u64,
     number: u64,
 ) -> usize
-    requires { ⌜ at + length (row (offset ∷ kind ∷ answer ∷ place ∷ number ∷ [])) ≤ length (now out) ⌝ }
-    ensures { λ r. ⌜ Put at (row (offset ∷ kind ∷ answer ∷ place ∷ number ∷ [])) (now (out .entry)) (now (out .exit)) r ⌝ }
+    requires { ⌜ at + length (numbersLine (offset ∷ kind ∷ answer ∷ place ∷ number ∷ [])) ≤ length (now out) ⌝ }
+    ensures { λ r. ⌜ Put at (numbersLine (offset ∷ kind ∷ answer ∷ place ∷ number ∷ [])) (now (out .entry)) (now (out .exit)) r ⌝ }
 {
     let a = put_field(out, at, offset, b' ');
     let b = put_field(out, a, kind, b' ');
@@ -104,8 +104,8 @@ fn put_row(
 
 // The line of the verdict at the start of v.
 fn put_line(out: &mut [u8], at: usize, v: &[u8]) -> usize
-    requires { ⌜ (verdictSize ≤ length (now v)) × (at + length (line (now v)) ≤ length (now out)) ⌝ }
-    ensures { λ r. ⌜ Put at (line (now (v .entry))) (now (out .entry)) (now (out .exit)) r ⌝ }
+    requires { ⌜ (verdictSize ≤ length (now v)) × (at + length (verdictLine (now v)) ≤ length (now out)) ⌝ }
+    ensures { λ r. ⌜ Put at (verdictLine (now (v .entry))) (now (out .entry)) (now (out .exit)) r ⌝ }
 {
     let offset = batch::read_number(&v[4..12]);
     let kind = batch::read_number(&v[2..4]);
@@ -117,7 +117,7 @@ fn put_line(out: &mut [u8], at: usize, v: &[u8]) -> usize
 
 // The lines of the verdicts at the start of a buffer, as long as there is room for the longest line.
 pub fn lines(verdicts: &[u8], out: &mut [u8]) -> Rendered
-    ensures { λ r. ⌜ seen r (now (out .exit)) ≡ rendered (now (verdicts .entry)) (now (out .entry)) ⌝ }
+    ensures { λ r. ⌜ renderingOf r (now (out .exit)) ≡ rendered (now (verdicts .entry)) (now (out .entry)) ⌝ }
 {
     let mut k = 0;
     let mut i = 0;

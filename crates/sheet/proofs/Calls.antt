@@ -1,16 +1,14 @@
 -- What a request does to a text that fits: made, it leaves one that fits; its answer is never 20; and what its answer says of the remainder.
--- Assumes nothing.
 use Prim.Native.Nat.{ℕ, _≤_, _<_}
 use mathlib.Core.Path.{_≡_, refl, sym, _∙_}
-use mathlib.Core.Bool.{Bool, true, false}
+use mathlib.Core.Bool.{Bool, true, false, cond}
 use mathlib.Core.List.{List}
 use mathlib.Core.Logic.{_≢_}
 use native.Mathlib.Omega.{arith}
 use lib.Dec.{eqb, ltb, eqb→eq}
 use lib.ListN.{length, set, getD}
-use Rattle.answer.specs.Choice.{pick}
 use Rattle.answer.specs.Steps.{must, _andThen_, _orAccept_}
-use Rattle.answer.specs.Table.{numberOf, numberOfReason}
+use Rattle.answer.specs.Table.{numberOf, rowOf}
 use Rattle.answer.specs.declared.Answer.the-variants.{Accepted}
 use Rattle.answer.specs.declared.Reason.{Reason}
 use Rattle.answer.specs.declared.Reason.the-variants.{NoPlace, Unfit, Remainder}
@@ -27,7 +25,7 @@ use Rattle.field.specs.Field.{checkField}
 use Rattle.sheet.specs.Sheets.{characters, remainderBy, sheetOf, held}
 use Rattle.sheet.specs.Repairs.{Request, filled, asked, placeStep, byteStep, textStep, unfit, requestSteps, repairBy, repairOf}
 use Rattle.sheet.specs.Repairs.Request.{Replace, Exchange, Fill}
-use Rattle.sheet.specs.Calls.{toldBy, heldBack}
+use Rattle.sheet.specs.Calls.{checkedBy, heldBack}
 use Rattle.sheet.specs.declared.Sheet.{Sheet}
 use Rattle.sheet.proofs.Fits.{Fit, by-kind, fit-plain, fit-few, plain-fit}
 use Rattle.sheet.proofs.Loads.{fresh, lastCheck}
@@ -59,36 +57,36 @@ kind-of : (kind : ℕ) (t : List ℕ) → sheetOf kind t .kind ≡ kind
 unfolding sheetOf
 kind-of kind t = refl
 
-told-by : (kind : ℕ) (s : Sheet) (x : Step) (new old : List ℕ) → s .kind ≡ kind → s ≡ sheetOf kind old → repairBy x s new ≡ heldBack kind (toldBy kind x new old)
-unfolding repairBy toldBy
+told-by : (kind : ℕ) (s : Sheet) (x : Step) (new old : List ℕ) → s .kind ≡ kind → s ≡ sheetOf kind old → repairBy x s new ≡ heldBack kind (checkedBy kind x new old)
+unfolding repairBy checkedBy
 told-by kind s Pass new old e f = rw e
 told-by kind s (Stop r k) new old e f = rw f
 
 -- a call on the sheet of a text is a step on the text
 pub call-is : (kind : ℕ) (t : List ℕ) (q : Request) → Fit kind t
-    → repairOf (sheetOf kind t) q ≡ heldBack kind (toldBy kind (requestSteps kind t q) (asked kind t q) t)
+    → repairOf (sheetOf kind t) q ≡ heldBack kind (checkedBy kind (requestSteps kind t q) (asked kind t q) t)
 unfolding sheetOf
 call-is kind t q f =
     let s = sheetOf kind t in
     by-request s q (sheet-stood kind t f)
     ∙ rw (kind-of kind t, held-of kind t (fit-few kind t f .1)) (told-by kind s (requestSteps kind t q) (asked kind t q) t (kind-of kind t) refl)
 
-pub told-fit : (kind : ℕ) (t : List ℕ) (q : Request) → Fit kind t → (x : Step) → requestSteps kind t q ≡ x → Fit kind (toldBy kind x (asked kind t q) t .text)
-unfolding toldBy
+pub told-fit : (kind : ℕ) (t : List ℕ) (q : Request) → Fit kind t → (x : Step) → requestSteps kind t q ≡ x → Fit kind (checkedBy kind x (asked kind t q) t .text)
+unfolding checkedBy
 told-fit kind t q f Pass e = asked-fit kind t q f e
 told-fit kind t q f (Stop r k) e = f
 
 -- .. and none of them answers 20
 Other : Step → Type 0
 Other Pass = Unit {0}
-Other (Stop r k) = numberOfReason r ≢ 20
+Other (Stop r k) = rowOf r .number ≢ 20
 
 other-then : (a b : Step) → Other a → Other b → Other (a andThen b)
 unfolding Other _andThen_
 other-then Pass b p q = q
 other-then (Stop r k) b p q = p
 
-other-must : (t : Bool) (r : Reason) (k : ℕ) → numberOfReason r ≢ 20 → Other (must t r k)
+other-must : (t : Bool) (r : Reason) (k : ℕ) → rowOf r .number ≢ 20 → Other (must t r k)
 unfolding Other
 other-must true r k n = tt
 other-must false r k n = n
@@ -152,7 +150,7 @@ pub slipped : (kind : ℕ) (t : List ℕ) (p b : ℕ) → p < length t → Slip 
 unfolding remainderBy
 slipped kind t p b h w = go (eqb kind 1)
   where
-    go : (x : Bool) → pick x (ibanRemainder t) (remainderOf t) ≡ 1 → pick x (ibanRemainder (set t p b)) (remainderOf (set t p b)) ≢ 1
+    go : (x : Bool) → cond x (ibanRemainder t) (remainderOf t) ≡ 1 → cond x (ibanRemainder (set t p b)) (remainderOf (set t p b)) ≢ 1
     go true = iban-replaced-not-one t p b h w
     go false = replaced-not-one t p b h w
 
@@ -161,7 +159,7 @@ pub traded : (kind : ℕ) (t : List ℕ) (i j : ℕ) → i < length t → j < le
 unfolding remainderBy
 traded kind t i j h k l w = go (eqb kind 1)
   where
-    go : (x : Bool) → pick x (ibanRemainder t) (remainderOf t) ≡ 1 → pick x (ibanRemainder (exchanged t i j)) (remainderOf (exchanged t i j)) ≢ 1
+    go : (x : Bool) → cond x (ibanRemainder t) (remainderOf t) ≡ 1 → cond x (ibanRemainder (exchanged t i j)) (remainderOf (exchanged t i j)) ≢ 1
     go true = iban-exchanged-not-one t i j h k (omega arith) w
     go false = exchanged-not-one t i j h k (omega arith) w
 

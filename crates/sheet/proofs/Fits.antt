@@ -1,8 +1,7 @@
 -- A text that a sheet can hold, character by character: what the character steps say of it at each place, and of a held text.
--- Assumes nothing.
 use Prim.Native.Nat.{ℕ, zero, suc, _+_, _-_, _≤_, _<_}
 use mathlib.Core.Path.{_≡_, refl, sym, _∙_, ap, subst}
-use mathlib.Core.Bool.{Bool, true, false}
+use mathlib.Core.Bool.{Bool, true, false, cond}
 use mathlib.Core.List.{List}
 use native.Mathlib.Nat.{add-zero}
 use native.Mathlib.Omega.{arith}
@@ -10,7 +9,6 @@ use borrow.Author.Tests.{lt-ltb, le-ltb, ltb-true, ltb-false, eqb-true, eqb-fals
 use lib.Dec.{T, eqb, ltb, eqb→eq}
 use lib.ListN.{length, getD, set, length-set}
 use lib.Seq.{getD-set-same, getD-set-other}
-use Rattle.answer.specs.Choice.{pick}
 use Rattle.answer.specs.Steps.{must, _andThen_}
 use Rattle.answer.specs.declared.Reason.{Reason}
 use Rattle.answer.specs.declared.Reason.the-variants.{Wrong, Length}
@@ -67,11 +65,11 @@ by-kind P one two kind t = go (eqb kind 1) refl
 -- the set of bytes at a place
 abbrev pub setAt : ℕ → ℕ → Set
 setAt kind i =
-    pick (eqb kind 1) (pick (ltb i 2) Capitals (pick (ltb i 4) Digits LettersDigits)) (pick (ltb i 18) CapitalsDigits Digits)
+    cond (eqb kind 1) (cond (ltb i 2) Capitals (cond (ltb i 4) Digits LettersDigits)) (cond (ltb i 18) CapitalsDigits Digits)
 
 pub record Fit (kind : ℕ) (t : List ℕ) : Type 0 where
   pub known : T (sheetKind kind)
-  pub long : T (pick (eqb kind 1) (within 5 34 (length t)) (eqb (length t) 20))
+  pub long : T (cond (eqb kind 1) (within 5 34 (length t)) (eqb (length t) 20))
   pub each : (i : ℕ) → i < length t → T (allowed (setAt kind i) (getD t i 0))
 
 pub fit-plain : (kind : ℕ) (t : List ℕ) → Fit kind t → Plain t
@@ -79,7 +77,7 @@ fit-plain kind t f i h = wider (setAt kind i) (classOf (getD t i 0)) (f .each i 
 
 pub fit-few : (kind : ℕ) (t : List ℕ) → Fit kind t → (5 ≤ length t) × (length t ≤ 34)
 fit-few kind t f =
-    by-kind (λ k. T (pick (eqb k 1) (within 5 34 (length t)) (eqb (length t) 20)) → (5 ≤ length t) × (length t ≤ 34))
+    by-kind (λ k. T (cond (eqb k 1) (within 5 34 (length t)) (eqb (length t) 20)) → (5 ≤ length t) × (length t ≤ 34))
     (λ l. within-ends 5 34 (length t) l)
     (λ l. let e = eqb→eq (length t) 20 l in (omega arith, omega arith))
     kind (f .known) (f .long)
@@ -140,7 +138,7 @@ lei-passes t f =
     (passes-both a b (must-passes (eqb (length t) 20) (Length 0 (length t)) 201 (f .long)) (none-wrong CapitalsDigits t 0 20 202 (λ j h. go (0 + j) (ltb (0 + j) 18) refl (f .each (0 + j) (omega arith)))))
     (none-wrong Digits t 18 2 203 (λ j h. rw (le-ltb (18 + j) 18 (omega arith)) at (f .each (18 + j) (omega arith))))
   where
-    go : (i : ℕ) (b : Bool) → ltb i 18 ≡ b → T (allowed (pick (ltb i 18) CapitalsDigits Digits) (getD t i 0)) → T (allowed CapitalsDigits (getD t i 0))
+    go : (i : ℕ) (b : Bool) → ltb i 18 ≡ b → T (allowed (cond (ltb i 18) CapitalsDigits Digits) (getD t i 0)) → T (allowed CapitalsDigits (getD t i 0))
     go i true e w = rw e at w
     go i false e w = digit-is (classOf (getD t i 0)) (rw e at w)
 
@@ -168,7 +166,7 @@ iban-fit t low high e =
     record { known = tt; long = rw (within-yes 5 34 (length t) low high) tt; each = λ i h. go (q .0) (q .1) (p .1) i h (ltb i 2) (ltb i 4) refl refl }
   where
     go : wrongFrom Capitals t 0 2 103 ≡ Pass → wrongFrom Digits t 2 2 104 ≡ Pass → wrongFrom LettersDigits t 4 (length t - 4) 105 ≡ Pass
-        → (i : ℕ) → i < length t → (x y : Bool) → ltb i 2 ≡ x → ltb i 4 ≡ y → T (allowed (pick (ltb i 2) Capitals (pick (ltb i 4) Digits LettersDigits)) (getD t i 0))
+        → (i : ℕ) → i < length t → (x y : Bool) → ltb i 2 ≡ x → ltb i 4 ≡ y → T (allowed (cond (ltb i 2) Capitals (cond (ltb i 4) Digits LettersDigits)) (getD t i 0))
     go a b d i h true y e f = rw e (allowed-at Capitals t 0 2 103 i a (omega arith) (omega (arith, ltb-true i 2 e)))
     go a b d i h false true e f = rw (e, f) (allowed-at Digits t 2 2 104 i b (omega (arith, ltb-false i 2 e)) (omega (arith, ltb-true i 4 f)))
     go a b d i h false false e f = rw (e, f) (allowed-at LettersDigits t 4 (length t - 4) 105 i d (omega (arith, ltb-false i 4 f)) (omega (arith, ltb-false i 4 f)))
@@ -192,7 +190,7 @@ lei-held s e =
     record { known = tt; long = n; each = λ i h. go (eqb→eq (length s) 20 n) (q .1) (p .1) i h (ltb i 18) refl }
   where
     go : length s ≡ 20 → wrongFrom CapitalsDigits s 0 20 202 ≡ Pass → wrongFrom Digits s 18 2 203 ≡ Pass → (i : ℕ) → i < length s → (x : Bool) → ltb i 18 ≡ x
-        → T (allowed (pick (ltb i 18) CapitalsDigits Digits) (getD s i 0))
+        → T (allowed (cond (ltb i 18) CapitalsDigits Digits) (getD s i 0))
     go n b d i h true e = rw e (allowed-at CapitalsDigits s 0 20 202 i b (omega arith) (omega arith))
     go n b d i h false e = rw e (allowed-at Digits s 18 2 203 i d (omega (arith, ltb-false i 18 e)) (omega arith))
 
@@ -208,7 +206,7 @@ pub held-plain : (kind : ℕ) (t : List ℕ) → Plain t → heldText kind t ≡
 unfolding heldText
 held-plain kind t p = go (eqb kind 1)
   where
-    go : (b : Bool) → pick b (textOf (left t)) t ≡ t
+    go : (b : Bool) → cond b (textOf (left t)) t ≡ t
     go true = plain-text t p
     go false = refl
 

@@ -1,14 +1,12 @@
 -- A load: 0 and 5 are answered exactly where every step but the remainder passes, and then the answer is that of a fresh check of the held text.
--- Assumes nothing.
 use Prim.Native.Nat.{ℕ, zero, suc, _+_, _≤_, _<_}
 use mathlib.Core.Path.{_≡_, refl, sym, _∙_, ap}
-use mathlib.Core.Bool.{Bool, true, false}
+use mathlib.Core.Bool.{Bool, true, false, cond}
 use mathlib.Core.List.{List, [], _∷_}
 use native.Mathlib.Omega.{arith}
 use borrow.Author.Tests.{eqb-true, le-leb, lt-leb, eq-eqb, ne-eqb}
 use lib.Dec.{T, eqb, leb}
 use lib.ListN.{length, take, drop, getD}
-use Rattle.answer.specs.Choice.{pick}
 use Rattle.answer.specs.Steps.{must, _andThen_, _orAccept_}
 use Rattle.answer.specs.Table.{valueOf}
 use Rattle.answer.specs.declared.Answer.{Answer}
@@ -95,7 +93,7 @@ quiet-characters : (kind : ℕ) (s : List ℕ) → Quiet (characters kind s)
 unfolding characters
 quiet-characters kind s = go (eqb kind 1)
   where
-    go : (b : Bool) → Quiet (pick b (ibanCharacters s) (leiCharacters s))
+    go : (b : Bool) → Quiet (cond b (ibanCharacters s) (leiCharacters s))
     go true = quiet-iban s
     go false = quiet-lei s
 
@@ -110,7 +108,7 @@ quiet-admission kind s =
 
 -- the last step of a kind's rule, on the held text
 abbrev pub lastCheck : ℕ → ℕ
-lastCheck kind = pick (eqb kind 1) 106 204
+lastCheck kind = cond (eqb kind 1) 106 204
 
 abbrev pub lastStep : ℕ → List ℕ → Step
 lastStep kind t = remainderStep (remainderBy kind t) (lastCheck kind)

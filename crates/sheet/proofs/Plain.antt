@@ -1,5 +1,4 @@
 -- A text of letters and digits is held as it stands, and its places count the same: no character of it is a blank or takes two bytes.
--- Assumes nothing.
 use Prim.Native.Nat.{ℕ, zero, suc, _+_, _<_}
 use mathlib.Core.Path.{_≡_, refl, _∙_, ap}
 use mathlib.Core.Bool.{true, false}

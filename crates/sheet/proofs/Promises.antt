@@ -1,8 +1,7 @@
 -- Demand 3: what is promised of a sheet over any list of calls, of errors that a repair of an accepted text makes, of a fill, and of refusals.
--- Assumes nothing.
 use Prim.Native.Nat.{ℕ, _+_, _/_, _%_, _≤_, _<_}
 use mathlib.Core.Path.{_≡_, refl, sym, _∙_, ap}
-use mathlib.Core.Bool.{Bool, true, false}
+use mathlib.Core.Bool.{Bool, true, false, cond}
 use mathlib.Core.List.{List, [], _∷_}
 use mathlib.Core.Logic.{_≢_}
 use native.Mathlib.Omega.{arith}
@@ -10,7 +9,6 @@ use borrow.Author.Tests.{lt-ltb}
 use lib.Dec.{T}
 use lib.ListN.{length, set, getD, length-set}
 use lib.Seq.{getD-set-other, set-getD}
-use Rattle.answer.specs.Choice.{pick}
 use Rattle.answer.specs.Steps.{_andThen_}
 use Rattle.answer.specs.Table.{numberOf, valueOf}
 use Rattle.answer.specs.declared.Answer.the-variants.{Accepted}
@@ -29,7 +27,7 @@ use Rattle.sheet.specs.Sheets.{sheetKind, heldText, characters, remainde
 use Rattle.sheet.specs.Load.{refusal, summed, loadOf, standing}
 use Rattle.sheet.specs.Repairs.{Request, digitsPlace, filled, asked, placeStep, requestSteps, sheetStep, repairBy, repairOf}
 use Rattle.sheet.specs.Repairs.Request.{Replace, Exchange, Fill}
-use Rattle.sheet.specs.Calls.{callsAfter, Told, freshly, toldBy, textsAfter, heldBack, Elsewhere}
+use Rattle.sheet.specs.Calls.{callsAfter, Checked, freshly, checkedBy, textsAfter, heldBack, Elsewhere}
 use Rattle.sheet.specs.declared.Sheet.{Sheet}
 use Rattle.sheet.specs.declared.Repaired.{Repaired}
 use Rattle.sheet.proofs.Fits.{Fit, fit-few}
@@ -59,33 +57,33 @@ stands-means s = (from s, λ p. by-own s (is-false (sameSheet s emptySheet) (λ 
 
 -- The fold over any list of calls, after a load that was not refused, is the fold over the text: the sheet holds the text with each request
 -- that was not refused made as asked, and the answer is that of the refusing step or of a fresh check of this text.
-pub record Kept (kind : ℕ) (r : Repaired) (t : Told) : Type 0 where
+pub record Kept (kind : ℕ) (r : Repaired) (t : Checked) : Type 0 where
   pub is : r ≡ heldBack kind t
   pub remainder : r .sheet .remainder ≡ valueOf (checkField kind (t .text))
   pub stands : standing (r .sheet) ≡ true
 
-fit-kept : (kind : ℕ) (t : Told) → Fit kind (t .text) → Kept kind (heldBack kind t) t
+fit-kept : (kind : ℕ) (t : Checked) → Fit kind (t .text) → Kept kind (heldBack kind t) t
 unfolding sheetOf
 fit-kept kind t f =
     record { is = refl; remainder = sym (fresh-value kind (t .text) f); stands = stands (sheetOf kind (t .text)) (sheet-stood kind (t .text) f) }
 
-fold-fit : (kind : ℕ) (t : Told) (qs : List Request) → Fit kind (t .text) → Fit kind (textsAfter kind t qs .text)
+fold-fit : (kind : ℕ) (t : Checked) (qs : List Request) → Fit kind (t .text) → Fit kind (textsAfter kind t qs .text)
 unfolding textsAfter
 fold-fit kind t [] f = f
 fold-fit kind t (q ∷ qs) f =
     let u = t .text in
-    fold-fit kind (toldBy kind (requestSteps kind u q) (asked kind u q) u) qs (told-fit kind u q f (requestSteps kind u q) refl)
+    fold-fit kind (checkedBy kind (requestSteps kind u q) (asked kind u q) u) qs (told-fit kind u q f (requestSteps kind u q) refl)
 
-fold-is : (kind : ℕ) (t : Told) (qs : List Request) → Fit kind (t .text) → callsAfter (heldBack kind t) qs ≡ heldBack kind (textsAfter kind t qs)
+fold-is : (kind : ℕ) (t : Checked) (qs : List Request) → Fit kind (t .text) → callsAfter (heldBack kind t) qs ≡ heldBack kind (textsAfter kind t qs)
 unfolding callsAfter textsAfter
 fold-is kind t [] f = refl
 fold-is kind t (q ∷ qs) f =
     let u = t .text in
     rw (call-is kind u q f)
-    (fold-is kind (toldBy kind (requestSteps kind u q) (asked kind u q) u) qs (told-fit kind u q f (requestSteps kind u q) refl))
+    (fold-is kind (checkedBy kind (requestSteps kind u q) (asked kind u q) u) qs (told-fit kind u q f (requestSteps kind u q) refl))
 
 module _ (kind : ℕ) (s : List ℕ) (old : Sheet) (qs : List Request) (e : summed (loadOf kind s old .answer) ≡ true) where
-  abbrev pub lastTold : Told
+  abbrev pub lastTold : Checked
   lastTold = textsAfter kind (freshly kind (heldText kind s)) qs
 
   last-fit : Fit kind (lastTold .text)
@@ -99,7 +97,7 @@ module _ (kind : ℕ) (s : List ℕ) (old : Sheet) (qs : List Request) (e : summ
 
   -- .. and so for one call more: refused, it changes nothing; done, sheet and answer are those of a fresh check of the changed text
   pub next-call : (q : Request) → repairOf (callsAfter (loadOf kind s old) qs .sheet) q
-      ≡ heldBack kind (toldBy kind (requestSteps kind (lastTold .text) q) (asked kind (lastTold .text) q) (lastTold .text))
+      ≡ heldBack kind (checkedBy kind (requestSteps kind (lastTold .text) q) (asked kind (lastTold .text) q) (lastTold .text))
   next-call q = rw last-is (call-is kind (lastTold .text) q last-fit)
 
 -- A request changes the characters of its places and no other.
@@ -195,7 +193,7 @@ unfolding loadOf
 load-keeps kind s old = go (sheetKind kind) (summed (checkField kind s)) refl
   where
     taken : Bool → Bool → Repaired
-    taken k b = pick k (record { answer = checkField kind s; sheet = pick b (sheetOf kind (heldText kind s)) old }) (refusal old (UnknownKind kind) 24)
+    taken k b = cond k (record { answer = checkField kind s; sheet = cond b (sheetOf kind (heldText kind s)) old }) (refusal old (UnknownKind kind) 24)
 
     go : (k b : Bool) → summed (checkField kind s) ≡ b → summed (taken k b .answer) ≡ false → taken k b .sheet ≡ old
     go false b e f = refl

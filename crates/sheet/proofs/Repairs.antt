@@ -1,5 +1,4 @@
 -- Repairs: the chain of refusals, and the 34 bytes after each repair of a sheet that stands.
--- Assumes nothing.
 use Prim.Native.Nat.{ℕ, _+_, _/_, _%_, _<_}
 use mathlib.Core.Path.{_≡_, refl, sym, _∙_, ap}
 use mathlib.Core.Bool.{Bool, true, false}

@@ -1,8 +1,7 @@
 -- Sheets: equal in all four parts means equal, the 34 bytes of a held text, and a sheet stands exactly where it holds a text that fits.
--- Assumes nothing.
 use Prim.Native.Nat.{ℕ, zero, suc, _+_, _≤_, _<_}
 use mathlib.Core.Path.{_≡_, refl, sym, _∙_, ap}
-use mathlib.Core.Bool.{Bool, true, false}
+use mathlib.Core.Bool.{Bool, true, false, _&&_, cond}
 use mathlib.Core.List.{List, [], _∷_, _++_}
 use native.Mathlib.Numerals.{add-one}
 use native.Mathlib.Omega.{arith}
@@ -10,7 +9,6 @@ use borrow.Author.Tests.{eqb-true, eq-eqb, ne-eqb}
 use lib.Dec.{T, eqb}
 use lib.ListN.{length, take, drop, getD, set, drop-of-length-le}
 use lib.Seq.{drop-cons, take-length}
-use Rattle.answer.specs.Choice.{both, pick}
 use Rattle.text.specs.Same.{sameText}
 use Rattle.text.proofs.Ranges.{is-true, is-false, within-ends}
 use Rattle.text.proofs.Same.{same-text, text-same}
@@ -24,15 +22,15 @@ use Rattle.sheet.specs.declared.Repaired.{Repaired}
 use Rattle.sheet.proofs.Fits.{Fit, fit-few}
 use Rattle.sheet.proofs.Loads.{load-other, load-refused, load-taken, taken-fit, load-fit}
 
-both-true : (a b : Bool) → both a b ≡ true → (a ≡ true) × (b ≡ true)
+both-true : (a b : Bool) → (a && b) ≡ true → (a ≡ true) × (b ≡ true)
 both-true true b e = (refl, e)
 both-true false b e = let z : _≡_ {A = ℕ} 0 1 = cc in absurd (omega arith)
 
 pub same-sheet : (a b : Sheet) → sameSheet a b ≡ true → a ≡ b
 unfolding sameSheet
 same-sheet a b e =
-    let p = both-true (eqb (a .kind) (b .kind)) (both (eqb (a .length) (b .length)) (both (eqb (a .remainder) (b .remainder)) (sameText (a .text) (b .text)))) e in
-    let q = both-true (eqb (a .length) (b .length)) (both (eqb (a .remainder) (b .remainder)) (sameText (a .text) (b .text))) (p .1) in
+    let p = both-true (eqb (a .kind) (b .kind)) (eqb (a .length) (b .length) && (eqb (a .remainder) (b .remainder) && sameText (a .text) (b .text))) e in
+    let q = both-true (eqb (a .length) (b .length)) (eqb (a .remainder) (b .remainder) && sameText (a .text) (b .text)) (p .1) in
     let r = both-true (eqb (a .remainder) (b .remainder)) (sameText (a .text) (b .text)) (q .1) in
     let kind = eqb-true (a .kind) (b .kind) (p .0) in
     let size = eqb-true (a .length) (b .length) (q .0) in
@@ -123,7 +121,7 @@ stood s e = by (sameSheet s emptySheet) refl (sheetKind (s .kind)) refl (summed 
     own = loadOf (s .kind) (held s) emptySheet
 
     by : (a : Bool) → sameSheet s emptySheet ≡ a → (b : Bool) → sheetKind (s .kind) ≡ b → (c : Bool) → summed (checkField (s .kind) (held s)) ≡ c
-        → pick a false (sameSheet (own .sheet) s) ≡ true → Stood s
+        → cond a false (sameSheet (own .sheet) s) ≡ true → Stood s
     by true p b q c r f = let z : _≡_ {A = ℕ} 0 1 = cc in absurd (omega arith)
     by false p false q c r f =
         let g = is-empty s (own .sheet) (ap (λ (x : Repaired). x .sheet) (load-other (s .kind) (held s) emptySheet q)) f in

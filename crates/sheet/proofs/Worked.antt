@@ -1,5 +1,4 @@
--- Worked examples of document 01, "The repair sheet" and "Worked by hand": loads, repairs and fills of both kinds, and a refusal of each cause.
--- Assumes nothing.
+-- Worked examples of SCOPE, "The repair sheet" and "Worked by hand": loads, repairs and fills of both kinds, and a refusal of each cause.
 use Prim.Native.Nat.{ℕ}
 use Prim.Native.String.{String}
 use mathlib.Core.Path.{_≡_, refl}
@@ -9,7 +8,7 @@ use Rattle.answer.specs.declared.Answer.{Answer}
 use Rattle.answer.specs.declared.Answer.the-variants.{Accepted, Refused}
 use Rattle.answer.specs.declared.Reason.the-variants.{Length, Wrong, Remainder, UnknownKind, NoSheet, NoPlace, Unfit}
 use Rattle.text.specs.Class.{classOf}
-use Rattle.text.specs.Decimal.{decimal, numberOf}
+use Rattle.text.specs.Decimal.{decimal, numberWritten}
 use Rattle.text.specs.Field.{lengthIs, wrongFrom, firstWrong}
 use Rattle.text.specs.Quote.{bytesOf}
 use Rattle.text.specs.Same.{sameText}
@@ -17,7 +16,7 @@ use Rattle.utf8.specs.Rfc3629.{leadOf, needed, wellFormed, scalarOf, charOf, fr
 use Rattle.utf8.specs.Chars.{charsPast, widths, validPrefix}
 use Rattle.utf8.specs.Space.{whiteSpace}
 use Rattle.checkdigit.specs.Letter.{letterValue}
-use Rattle.checkdigit.specs.Sum.{valueOf, digitsOf, expand, remainderOf, rearranged, ibanRemainder}
+use Rattle.checkdigit.specs.Sum.{characterValue, characterDigits, expand, remainderOf, rearranged, ibanRemainder}
 use Rattle.checkdigit.specs.Verdict.{remainderStep}
 use Rattle.iban.specs.Left.{leftFrom, left, textOf}
 use Rattle.iban.specs.Iban.{each, countStep, classSteps, ibanCharacters, ibanAnswer}
@@ -89,5 +88,5 @@ forged =
 pub worked : (map (λ c. last c .answer) table ≡ map (λ c. c .answer) table)
     × (map (λ c. held (last c .sheet)) table ≡ map (λ c. bytesOf (c .text)) table)
     × (map (λ s. repairOf s Fill .answer) forged ≡ Refused NoSheet 20 ∷ Refused NoSheet 20 ∷ Refused NoSheet 20 ∷ [])
-unfolding classOf decimal numberOf lengthIs wrongFrom firstWrong leadOf needed wellFormed scalarOf charOf front charsPast widths validPrefix whiteSpace letterValue valueOf digitsOf expand remainderOf rearranged ibanRemainder remainderStep leftFrom left textOf each countStep classSteps ibanCharacters ibanAnswer padded leiCharacters leiAnswer admission ruleOf checkField heldText characters remainderBy sheetOf emptySheet sameText sameSheet summed loadOf standing filled asked placeStep byteStep textStep requestSteps sheetStep repairBy repairOf callsAfter _andThen_ _orAccept_
+unfolding classOf decimal numberWritten lengthIs wrongFrom firstWrong leadOf needed wellFormed scalarOf charOf front charsPast widths validPrefix whiteSpace letterValue characterValue characterDigits expand remainderOf rearranged ibanRemainder remainderStep leftFrom left textOf each countStep classSteps ibanCharacters ibanAnswer padded leiCharacters leiAnswer admission ruleOf checkField heldText characters remainderBy sheetOf emptySheet sameText sameSheet summed loadOf standing filled asked placeStep byteStep textStep requestSteps sheetStep repairBy repairOf callsAfter _andThen_ _orAccept_
 worked = (refl, refl, refl)

@@ -1,5 +1,4 @@
--- Document 01, "The repair sheet", read over a whole list of calls: on the sheet, and on nothing but the text that it holds.
--- Assumes nothing.
+-- SCOPE, "The repair sheet", read over a whole list of calls: on the sheet, and on nothing but the text that it holds.
 use Prim.Native.Nat.{ℕ, _+_}
 use mathlib.Core.List.{List, [], _∷_}
 use mathlib.Core.Logic.{_≢_}
@@ -19,25 +18,25 @@ callsAfter r [] = r
 callsAfter r (q ∷ qs) = callsAfter (repairOf (r .sheet) q) qs
 
 -- a text, and the answer of the last call
-pub record Told : Type 0 where
+pub record Checked : Type 0 where
   pub answer : Answer
   pub text : List ℕ
 
 -- a text with the answer of a fresh check of it
-abbrev pub freshly : ℕ → List ℕ → Told
+abbrev pub freshly : ℕ → List ℕ → Checked
 freshly kind t = record { answer = checkField kind t; text = t }
 
 -- a request that is not refused is made as asked, and a fresh check answers; one that is refused changes nothing
-unfoldable pub toldBy : ℕ → Step → List ℕ → List ℕ → Told
-toldBy kind Pass new old = freshly kind new
-toldBy kind (Stop r k) new old = record { answer = Refused r k; text = old }
+unfoldable pub checkedBy : ℕ → Step → List ℕ → List ℕ → Checked
+checkedBy kind Pass new old = freshly kind new
+checkedBy kind (Stop r k) new old = record { answer = Refused r k; text = old }
 
-unfoldable pub textsAfter : ℕ → Told → List Request → Told
+unfoldable pub textsAfter : ℕ → Checked → List Request → Checked
 textsAfter kind t [] = t
-textsAfter kind t (q ∷ qs) = textsAfter kind (toldBy kind (requestSteps kind (t .text) q) (asked kind (t .text) q) (t .text)) qs
+textsAfter kind t (q ∷ qs) = textsAfter kind (checkedBy kind (requestSteps kind (t .text) q) (asked kind (t .text) q) (t .text)) qs
 
 -- the sheet that holds it
-abbrev pub heldBack : ℕ → Told → Repaired
+abbrev pub heldBack : ℕ → Checked → Repaired
 heldBack kind t = record { answer = t .answer; sheet = sheetOf kind (t .text) }
 
 -- a place that a request does not speak of

@@ -1,11 +1,9 @@
--- Document 01, "The repair sheet": "Load takes a field of kind 1 or 2 that passes every step but the remainder ... It answers 0 or 5 as the
+-- SCOPE, "The repair sheet": "Load takes a field of kind 1 or 2 that passes every step but the remainder ... It answers 0 or 5 as the
 -- check does, and otherwise the check's refusal with the old sheet returned; any other kind is 12."
--- Assumes nothing.
 use Prim.Native.Nat.{ℕ}
-use mathlib.Core.Bool.{Bool, false}
+use mathlib.Core.Bool.{Bool, false, _||_, cond}
 use mathlib.Core.List.{List}
 use lib.Dec.{eqb}
-use Rattle.answer.specs.Choice.{either, pick}
 use Rattle.answer.specs.Table.{numberOf}
 use Rattle.answer.specs.declared.Answer.{Answer}
 use Rattle.answer.specs.declared.Answer.the-variants.{Refused}
@@ -22,7 +20,7 @@ refusal s r k = record { answer = Refused r k; sheet = s }
 
 -- 0 or 5: every step but the remainder passed
 unfoldable pub summed : Answer → Bool
-summed a = either (eqb (numberOf a) 0) (eqb (numberOf a) 5)
+summed a = eqb (numberOf a) 0 || eqb (numberOf a) 5
 
 -- an answer, and a sheet of these parts
 abbrev pub writtenOf : ℕ → ℕ → ℕ → List ℕ → Answer → Repaired
@@ -30,10 +28,10 @@ writtenOf kind n r text a = record { answer = a; sheet = record { kind = kind; l
 
 unfoldable pub loadOf : ℕ → List ℕ → Sheet → Repaired
 loadOf kind s old =
-    pick (sheetKind kind)
-    (record { answer = checkField kind s; sheet = pick (summed (checkField kind s)) (sheetOf kind (heldText kind s)) old })
+    cond (sheetKind kind)
+    (record { answer = checkField kind s; sheet = cond (summed (checkField kind s)) (sheetOf kind (heldText kind s)) old })
     (refusal old (UnknownKind kind) 24)
 
 -- a sheet stands where it is not empty, and is the one that loading its own text into an empty sheet gives
 unfoldable pub standing : Sheet → Bool
-standing s = pick (sameSheet s emptySheet) false (sameSheet (loadOf (s .kind) (held s) emptySheet .sheet) s)
+standing s = cond (sameSheet s emptySheet) false (sameSheet (loadOf (s .kind) (held s) emptySheet .sheet) s)

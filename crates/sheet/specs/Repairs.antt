@@ -1,13 +1,12 @@
--- Document 01, "The repair sheet": what replace, exchange and fill make of the held text, and their refusals 20, 21 and 22 in this order.
+-- SCOPE, "The repair sheet": what replace, exchange and fill make of the held text, and their refusals 20, 21 and 22 in this order.
 -- "Otherwise the repair is done and answers as a fresh check of the new text."
--- Assumes nothing.
 use Prim.Native.Nat.{ℕ}
 use mathlib.Core.List.{List}
 use lib.Dec.{eqb, ltb}
 use lib.ListN.{length, set}
-use Rattle.answer.specs.Choice.{pick}
+use mathlib.Core.Bool.{cond}
 use Rattle.answer.specs.Steps.{must, _andThen_}
-use Rattle.answer.specs.Table.{placeOfReason}
+use Rattle.answer.specs.Table.{rowOf}
 use Rattle.answer.specs.declared.Reason.the-variants.{NoSheet, NoPlace, Unfit}
 use Rattle.answer.specs.declared.Step.{Step}
 use Rattle.answer.specs.declared.Step.the-variants.{Pass, Stop}
@@ -29,7 +28,7 @@ pub data Request : Type 0 where
 
 -- the check digits' first place: characters 3 and 4 of an IBAN, the last two of an LEI
 abbrev pub digitsPlace : ℕ → ℕ
-digitsPlace kind = pick (eqb kind 1) 2 18
+digitsPlace kind = cond (eqb kind 1) 2 18
 
 -- 98 less the remainder that digits 00 would give, in their place
 unfoldable pub filled : ℕ → List ℕ → List ℕ
@@ -52,7 +51,7 @@ byteStep place byte = must (allowed LettersDigits byte) (Unfit place) 22
 -- 22: the new text would break a character step, at the first character that breaks it
 abbrev pub unfit : Step → Step
 unfit Pass = Pass
-unfit (Stop r k) = Stop (Unfit (placeOfReason r)) 23
+unfit (Stop r k) = Stop (Unfit (rowOf r .place)) 23
 
 unfoldable pub textStep : ℕ → List ℕ → Step
 textStep kind t = unfit (characters kind t)

@@ -1,13 +1,11 @@
--- Document 01, "The repair sheet": "The held text of at most 34 characters goes in and comes back by value, with kind 1 or 2, length and
+-- SCOPE, "The repair sheet": "The held text of at most 34 characters goes in and comes back by value, with kind 1 or 2, length and
 -- remainder. .. The empty sheet is zero throughout, and bytes past the length are always zero."
--- Assumes nothing.
 use Prim.Native.Nat.{ℕ, _≤_, _<_}
 use mathlib.Core.Path.{_≡_}
-use mathlib.Core.Bool.{Bool, true, false}
+use mathlib.Core.Bool.{Bool, true, false, _&&_, cond}
 use mathlib.Core.List.{List, [], _∷_}
 use lib.Dec.{T, eqb}
 use lib.ListN.{length, take, getD}
-use Rattle.answer.specs.Choice.{both, pick}
 use Rattle.answer.specs.declared.Step.{Step}
 use Rattle.text.specs.Ranges.{within}
 use Rattle.text.specs.Same.{sameText}
@@ -26,15 +24,15 @@ sheetKind kind = within 1 2 kind
 
 -- "an IBAN is held without its blanks", an LEI as it stands
 unfoldable pub heldText : ℕ → List ℕ → List ℕ
-heldText kind s = pick (eqb kind 1) (textOf (left s)) s
+heldText kind s = cond (eqb kind 1) (textOf (left s)) s
 
 -- every step of the kind's rule but the remainder
 unfoldable pub characters : ℕ → List ℕ → Step
-characters kind s = pick (eqb kind 1) (ibanCharacters s) (leiCharacters s)
+characters kind s = cond (eqb kind 1) (ibanCharacters s) (leiCharacters s)
 
 -- the remainder of a held text
 unfoldable pub remainderBy : ℕ → List ℕ → ℕ
-remainderBy kind t = pick (eqb kind 1) (ibanRemainder t) (remainderOf t)
+remainderBy kind t = cond (eqb kind 1) (ibanRemainder t) (remainderOf t)
 
 -- the sheet that holds a text
 unfoldable pub sheetOf : ℕ → List ℕ → Sheet
@@ -50,10 +48,10 @@ held s = take (s .length) (s .text)
 -- two sheets are equal in all four parts
 unfoldable pub sameSheet : Sheet → Sheet → Bool
 sameSheet a b =
-    both (eqb (a .kind) (b .kind))
-    (both (eqb (a .length) (b .length))
-    (both (eqb (a .remainder) (b .remainder))
-    (sameText (a .text) (b .text))))
+    eqb (a .kind) (b .kind)
+    && (eqb (a .length) (b .length)
+    && (eqb (a .remainder) (b .remainder)
+    && sameText (a .text) (b .text)))
 
 -- a text of letters and digits
 abbrev pub Plain : List ℕ → Type 0

@@ -246,12 +246,15 @@ fn text_step(kind: u16, t: &[u8]) -> Step
     let step = h.step;
     match step {
         Step::Pass => Step::Pass,
-        Step::Stop(reason, _) => Step::Stop(
-            Reason::Unfit {
-                place: reason.place(),
-            },
-            23,
-        ),
+        Step::Stop(reason, _) => {
+            let numbers = reason.numbers();
+            Step::Stop(
+                Reason::Unfit {
+                    place: numbers.place,
+                },
+                23,
+            )
+        }
     }
 }
 

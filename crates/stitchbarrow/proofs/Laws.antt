@@ -1,5 +1,4 @@
 -- Lists written part by part: three elements stored at the front, a part copied whole, and the four parts of a sheet.
--- Assumes nothing.
 use Prim.Native.Nat.{ℕ, _≤_}
 use mathlib.Core.Path.{_≡_, refl, ap, _∙_}
 use mathlib.Core.List.{List, [], _∷_, _++_, append-nil}

@@ -1,8 +1,7 @@
 -- Laws of the reply of a load or a repair: what is left where a slice is too short and where neither is, after a refusal, and for the next call.
--- Assumes nothing.
 use Prim.Native.Nat.{ℕ, _≤_}
 use mathlib.Core.Path.{_≡_, refl, sym, _∙_}
-use mathlib.Core.Bool.{Bool, true, false}
+use mathlib.Core.Bool.{Bool, true, false, _||_, cond}
 use mathlib.Core.List.{List, _++_}
 use mathlib.Core.Logic.{_≢_}
 use native.Mathlib.Omega.{arith}
@@ -10,7 +9,6 @@ use borrow.Author.Tests.{ltb-false, le-ltb, ne-eqb}
 use lib.Dec.{ltb}
 use lib.ListN.{length, drop, length-append, length-drop}
 use lib.Seq.{drop-at}
-use Rattle.answer.specs.Choice.{either, pick}
 use Rattle.answer.specs.Table.{numberOf}
 use Rattle.answer.specs.declared.Answer.{Answer}
 use Rattle.batch.specs.Number.{Bytes}
@@ -23,7 +21,7 @@ use Rattle.stitchbarrow.specs.Sheets.{sheetSize, sheetAt, sheetBytes}
 use Rattle.stitchbarrow.specs.Reply.{answerSize, SheetReply, handed, tooShort, sheetReply}
 use Rattle.stitchbarrow.proofs.Sheets.{sheet-back, sheet-long, lent-back}
 
-neither : (a b : Bool) → either a b ≡ false → (a ≡ false) × (b ≡ false)
+neither : (a b : Bool) → (a || b) ≡ false → (a ≡ false) × (b ≡ false)
 neither true b e = let z : _≡_ {A = ℕ} 0 1 = cc in absurd (omega arith)
 neither false b e = (refl, e)
 
@@ -51,7 +49,7 @@ leaves : (r : Repaired) (sheet answer : List ℕ) (P : SheetReply → Type 0)
 unfolding sheetReply
 leaves r sheet answer P short long = go (tooShort (length sheet) (length answer)) refl
   where
-    go : (b : Bool) → tooShort (length sheet) (length answer) ≡ b → P (pick b (record { code = 255; sheet = sheet; answer = answer }) (handed r sheet answer))
+    go : (b : Bool) → tooShort (length sheet) (length answer) ≡ b → P (cond b (record { code = 255; sheet = sheet; answer = answer }) (handed r sheet answer))
     go true e = short e
     go false e = long (long-enough (length sheet) (length answer) false (sym e) refl)
 

@@ -1,20 +1,18 @@
 -- Laws of a sheet in bytes: it reads back where it stands, and bytes come back as lent from the sheet that they write.
--- Assumes nothing.
 use Prim.Native.Nat.{ℕ, _+_, _≤_, _<_}
 use mathlib.Core.Path.{_≡_, sym, ap, _∙_}
-use mathlib.Core.Bool.{Bool, true, false}
+use mathlib.Core.Bool.{Bool, true, false, cond}
 use mathlib.Core.List.{List, _++_}
 use native.Mathlib.Omega.{arith}
 use lib.Dec.{eqb}
 use lib.ListN.{length, take, drop, take-append-drop}
 use lib.Seq.{take-at, take-add, drop-drop}
-use Rattle.answer.specs.Choice.{pick}
 use Rattle.text.proofs.Ranges.{within-ends}
 use Rattle.checkdigit.specs.Sum.{remainderOf, ibanRemainder}
 use Rattle.checkdigit.proofs.Digits.{remainder-low}
 use Rattle.checkdigit.proofs.Iban.{iban-low}
 use Rattle.iban.proofs.Holding.{length-padded}
-use Rattle.batch.specs.Number.{toBytes, numberAt, Bytes}
+use Rattle.batch.specs.Number.{toBytes, littleAt, Bytes}
 use Rattle.batch.proofs.Numbers.{read-back, number-back}
 use Rattle.sheet.specs.Sheets.{remainderBy, sheetOf, held}
 use Rattle.sheet.specs.declared.Sheet.{Sheet}
@@ -26,7 +24,7 @@ low : (kind : ℕ) (t : List ℕ) → remainderBy kind t < 97
 unfolding remainderBy
 low kind t = go (eqb kind 1)
   where
-    go : (b : Bool) → pick b (ibanRemainder t) (remainderOf t) < 97
+    go : (b : Bool) → cond b (ibanRemainder t) (remainderOf t) < 97
     go true = iban-low t
     go false = remainder-low t
 
@@ -48,7 +46,7 @@ module _ (s : Sheet) (o : Stood s) (more : List ℕ) where
       let k = within-ends 1 2 (s .kind) (o .fit .known) in
       let l = stood-few s o in
       let b = sheetBytes s ++ more in
-      same s (numberAt b 0 2) (numberAt b 2 2) (numberAt b 4 8) (take 34 (drop 12 b))
+      same s (littleAt b 0 2) (littleAt b 2 2) (littleAt b 4 8) (take 34 (drop 12 b))
       (read-back 2 (s .kind) (omega arith))
       (read-back 2 (s .length) (omega arith))
       (read-back 8 (s .remainder) (omega (arith, rest-low s o)))
@@ -72,7 +70,7 @@ lent-back b h l =
     ap (λ (x : List ℕ). take 2 (drop 0 b) ++ (take 2 (drop 2 b) ++ x)) (join b 4 8 34)
     ∙ ap (λ (x : List ℕ). take 2 (drop 0 b) ++ x) (join b 2 2 42)
     ∙ join b 0 2 44 in
-    parts (toBytes 2 (numberAt b 0 2)) (take 2 (drop 0 b)) (toBytes 2 (numberAt b 2 2)) (take 2 (drop 2 b)) (toBytes 8 (numberAt b 4 8)) (take 8 (drop 4 b)) (take 34 (drop 12 b)) (drop sheetSize b)
+    parts (toBytes 2 (littleAt b 0 2)) (take 2 (drop 0 b)) (toBytes 2 (littleAt b 2 2)) (take 2 (drop 2 b)) (toBytes 8 (littleAt b 4 8)) (take 8 (drop 4 b)) (take 34 (drop 12 b)) (drop sheetSize b)
     (number-back b h 0 2 (omega arith)) (number-back b h 2 2 (omega arith)) (number-back b h 4 8 (omega arith))
     ∙ ap (λ (x : List ℕ). x ++ drop sheetSize b) whole
     ∙ take-append-drop sheetSize b

@@ -1,5 +1,4 @@
 -- Calls one after the other on the same two slices: each reads the bytes that the one before it left.
--- Assumes nothing.
 use mathlib.Core.List.{List, [], _∷_}
 use Rattle.sheet.specs.Repairs.{Request, repairOf}
 use Rattle.stitchbarrow.specs.Sheets.{sheetAt}

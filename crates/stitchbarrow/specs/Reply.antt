@@ -1,11 +1,9 @@
 -- What each function of the C interface returns and leaves in the slices lent to it; 255 where one is too short, and then nothing is written.
--- Assumes nothing.
 use Prim.Native.Nat.{ℕ}
-use mathlib.Core.Bool.{Bool}
+use mathlib.Core.Bool.{Bool, _||_, cond}
 use mathlib.Core.List.{List, [], _∷_, _++_}
 use lib.Dec.{ltb}
 use lib.ListN.{length, drop}
-use Rattle.answer.specs.Choice.{either, pick}
 use Rattle.answer.specs.Table.{numberOf}
 use Rattle.answer.specs.declared.Answer.{Answer}
 use Rattle.field.specs.Field.{checkField}
@@ -23,12 +21,12 @@ abbrev pub answerSize : ℕ
 answerSize = 12
 
 -- an answer in the first 12 bytes of a slice, the others as lent
-unfoldable pub answered : Answer → List ℕ → Reply
-answered a answer = record { code = numberOf a; bytes = answerBytes a ++ drop answerSize answer }
+unfoldable pub answerReply : Answer → List ℕ → Reply
+answerReply a answer = record { code = numberOf a; bytes = answerBytes a ++ drop answerSize answer }
 
 unfoldable pub checkReply : ℕ → List ℕ → List ℕ → Reply
 checkReply kind value answer =
-    pick (ltb (length answer) answerSize) (record { code = 255; bytes = answer }) (answered (checkField kind value) answer)
+    cond (ltb (length answer) answerSize) (record { code = 255; bytes = answer }) (answerReply (checkField kind value) answer)
 
 -- the byte that is returned, the output and the counts
 pub record RunReply : Type 0 where
@@ -36,12 +34,12 @@ pub record RunReply : Type 0 where
   pub out : List ℕ
   pub counts : List ℕ
 
-abbrev pub told : Outcome → List ℕ → RunReply
-told r counts = record { code = stopNumber (r .stop); out = r .out; counts = (r .judged ∷ r .read ∷ r .written ∷ []) ++ drop 3 counts }
+abbrev pub runAnswered : Outcome → List ℕ → RunReply
+runAnswered r counts = record { code = stopNumber (r .stop); out = r .out; counts = (r .judged ∷ r .read ∷ r .written ∷ []) ++ drop 3 counts }
 
 unfoldable pub runReply : List ℕ → ℕ → List ℕ → ℕ → List ℕ → RunReply
 runReply batch offset out budget counts =
-    pick (ltb (length counts) 3) (record { code = 255; out = out; counts = counts }) (told (callOf batch offset out budget) counts)
+    cond (ltb (length counts) 3) (record { code = 255; out = out; counts = counts }) (runAnswered (callOf batch offset out budget) counts)
 
 -- the byte that is returned, the sheet's slice and the answer's
 pub record SheetReply : Type 0 where
@@ -60,8 +58,8 @@ handed r sheet answer =
 
 -- one of the two slices, of these lengths, is too short
 abbrev pub tooShort : ℕ → ℕ → Bool
-tooShort sheet answer = either (ltb sheet sheetSize) (ltb answer answerSize)
+tooShort sheet answer = ltb sheet sheetSize || ltb answer answerSize
 
 unfoldable pub sheetReply : Repaired → List ℕ → List ℕ → SheetReply
 sheetReply r sheet answer =
-    pick (tooShort (length sheet) (length answer)) (record { code = 255; sheet = sheet; answer = answer }) (handed r sheet answer)
+    cond (tooShort (length sheet) (length answer)) (record { code = 255; sheet = sheet; answer = answer }) (handed r sheet answer)

@@ -10,7 +10,7 @@ ghost use Rattle.stitchbarrow.specs.Sheets.{sheetSize, sheetAt, sheetByt
 ghost use Rattle.stitchbarrow.specs.Reply.{
   answerSize,
   Reply,
-  answered,
+  answerReply,
   checkReply,
   RunReply,
   runReply,
@@ -34,7 +34,7 @@ const SHEET_SIZE: usize = 46;
 // An answer, written to the first 12 bytes of `answer`.
 fn tell(a: Answer, answer: &mut [u8]) -> u8
     requires { ⌜ answerSize ≤ length (now answer) ⌝ }
-    ensures { λ r. ⌜ record { code = r; bytes = now (answer .exit) } ≡ answered a (now (answer .entry)) ⌝ }
+    ensures { λ r. ⌜ record { code = r; bytes = now (answer .exit) } ≡ answerReply a (now (answer .entry)) ⌝ }
 {
     let bytes = batch::answer_bytes(a);
     bytes::copy(&bytes, answer);

@@ -1,13 +1,11 @@
 -- Laws of the classes: a byte's class from its bounds, and its bounds from its class.
--- Assumes nothing.
 use Prim.Native.Nat.{ℕ, _≤_, _<_}
 use mathlib.Core.Path.{_≡_}
-use mathlib.Core.Bool.{Bool, true, false}
+use mathlib.Core.Bool.{Bool, true, false, cond}
 use mathlib.Core.List.{[]}
 use mathlib.Core.Logic.{_⊎_, inl, inr, ⊎-elim}
 use native.Mathlib.Omega.{arith}
 use lib.Dec.{T}
-use Rattle.answer.specs.Choice.{pick}
 use Rattle.text.specs.Ranges.{within}
 use Rattle.text.specs.Class.{classes, classOf, holds, allowed, isDigit, isLetter}
 use Rattle.text.specs.declared.Class.{Class}
@@ -26,7 +24,7 @@ is-digit b h k = rw (classed 48 57 b h k tt)
 
 -- the class that three tests give
 abbrev tested : Bool → Bool → Bool → Class
-tested p q r = pick p Digit (pick q Capital (pick r Small Other))
+tested p q r = cond p Digit (cond q Capital (cond r Small Other))
 
 only-digit : (p q r : Bool) → T (holds Digits (tested p q r)) → T p
 only-digit true q r t = tt

@@ -1,8 +1,7 @@
 -- Laws of the shared steps: a search goes on past an allowed byte, stops at another, and what a search that passed has shown.
--- Assumes nothing.
 use Prim.Native.Nat.{ℕ, zero, suc, _+_, _-_, _*_, _^_, _≤_, _<_}
 use mathlib.Core.Path.{_≡_, refl, sym, _∙_}
-use mathlib.Core.Bool.{Bool, true, false}
+use mathlib.Core.Bool.{Bool, true, false, cond}
 use mathlib.Core.List.{List, [], _∷_, map}
 use native.Mathlib.Nat.{add-zero, lt-of-lt-of-le, pow-le-pow-right}
 use native.Mathlib.Numerals.{add-one}
@@ -11,13 +10,12 @@ use borrow.Author.Tests.{eq-eqb, ne-eqb}
 use lib.Dec.{T, eqb, leb, le→leb, eqb→eq}
 use lib.ListN.{length, getD, take, drop, length-map, length-take, length-drop, drop-of-length-le}
 use lib.Seq.{drop-cons, getD-drop}
-use Rattle.answer.specs.Choice.{pick}
 use Rattle.answer.specs.Steps.{must, _andThen_}
 use Rattle.answer.specs.declared.Reason.the-variants.{Wrong}
 use Rattle.answer.specs.declared.Step.{Step}
 use Rattle.answer.specs.declared.Step.the-variants.{Pass, Stop}
 use Rattle.text.specs.Class.{allowed, isDigit}
-use Rattle.text.specs.Decimal.{digitOf, numberOf}
+use Rattle.text.specs.Decimal.{digitOf, numberWritten}
 use Rattle.text.specs.Field.{firstPlace, wrongFrom}
 use Rattle.text.specs.declared.Set.{Set}
 use Rattle.text.specs.declared.Set.the-variants.{Digits}
@@ -40,7 +38,7 @@ module _ (b : ℕ) (s : List ℕ) (i : ℕ) where
   first-none h = rw (drop-of-length-le s h)
 
 -- a byte's first place is at most the field's length
-at-most : (t : Bool) (n m : ℕ) → n ≤ m → pick t 0 (suc n) ≤ suc m
+at-most : (t : Bool) (n m : ℕ) → n ≤ m → cond t 0 (suc n) ≤ suc m
 at-most true n m h = omega arith
 at-most false n m h = omega arith
 
@@ -50,8 +48,8 @@ first-most b [] = omega arith
 first-most b (x ∷ s) = at-most (eqb x b) (firstPlace b s) (length s) (first-most b s)
 
 -- and where it is less, the byte stands there
-found-at : (t : Bool) (n b : ℕ) (s : List ℕ) (x : ℕ) → (T t → x ≡ b) → (n < length s → getD s n 0 ≡ b) → pick t 0 (suc n) < suc (length s)
-    → getD (x ∷ s) (pick t 0 (suc n)) 0 ≡ b
+found-at : (t : Bool) (n b : ℕ) (s : List ℕ) (x : ℕ) → (T t → x ≡ b) → (n < length s → getD s n 0 ≡ b) → cond t 0 (suc n) < suc (length s)
+    → getD (x ∷ s) (cond t 0 (suc n)) 0 ≡ b
 found-at true n b s x e f h = e tt
 found-at false n b s x e f h = f (omega arith)
 
@@ -117,8 +115,8 @@ small-digits s i (suc n) k e =
     (both-of (leb (digitOf (getD s i 0)) 9) (every (λ d. leb d 9) (map digitOf (take n (drop (i + 1) s)))) (small-digit (getD s i 0) (p .0)) (small-digits s (i + 1) n k (p .1)))
 
 -- and n digits write a number below 10^n, and below any higher power
-pub digits-most : (s : List ℕ) (i n k m : ℕ) → n ≤ m → wrongFrom Digits s i n k ≡ Pass → numberOf (take n (drop i s)) < 10 ^ m
-unfolding numberOf
+pub digits-most : (s : List ℕ) (i n k m : ℕ) → n ≤ m → wrongFrom Digits s i n k ≡ Pass → numberWritten (take n (drop i s)) < 10 ^ m
+unfolding numberWritten
 digits-most s i n k m h e =
     let t = take n (drop i s) in
     lt-of-lt-of-le (decimal-most (map digitOf t) (small-digits s i n k e))
@@ -136,7 +134,7 @@ module _ (s : List ℕ) (i k : ℕ) where
   pair-passes e f =
       wrong-on Digits s i k 2 (omega arith) e ∙ wrong-on Digits s (i + 1) k 1 (omega arith) f ∙ sym (wrong-none Digits s (i + 1 + 1) k)
 
-pub pair-number : (s : List ℕ) (i : ℕ) → i + 1 < length s → numberOf (take 2 (drop i s)) ≡ 10 * digitOf (getD s i 0) + digitOf (getD s (i + 1) 0)
+pub pair-number : (s : List ℕ) (i : ℕ) → i + 1 < length s → numberWritten (take 2 (drop i s)) ≡ 10 * digitOf (getD s i 0) + digitOf (getD s (i + 1) 0)
 pair-number s i h =
     let l = drop i s in
     let n : 1 < length l = omega (arith, length-drop i s) in

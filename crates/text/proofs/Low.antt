@@ -1,5 +1,4 @@
 -- Where the shared steps pass, the bytes that they read are ASCII.
--- Assumes nothing.
 use Prim.Native.Nat.{ℕ, _+_, _-_, _≤_, _<_}
 use mathlib.Core.Path.{_≡_, refl}
 use mathlib.Core.Bool.{Bool, true, false}
@@ -13,7 +12,7 @@ use Rattle.answer.specs.declared.Reason.the-variants.{Length, Wrong}
 use Rattle.answer.specs.declared.Step.{Step}
 use Rattle.answer.specs.declared.Step.the-variants.{Pass}
 use Rattle.answer.proofs.Laws.{both-pass, test-held}
-use Rattle.text.specs.Decimal.{numberOf}
+use Rattle.text.specs.Decimal.{numberWritten}
 use Rattle.text.specs.Field.{firstPlace, lengthIs, wrongFrom, firstWrong, literalAt, inRange, digitsIn}
 use Rattle.text.specs.declared.Set.{Set}
 use Rattle.text.specs.declared.Set.the-variants.{Digits}
@@ -64,7 +63,7 @@ module _ (s : List ℕ) where
   pub low-digits : (n at low high k : ℕ) → digitsIn n s at low high k ≡ Pass → Low s at (at + n)
   unfolding digitsIn
   low-digits n at low high k e =
-      low-wrong Digits at n k (both-pass (wrongFrom Digits s at n k) (inRange at low high (numberOf (take n (drop at s))) (k + 1)) e .0)
+      low-wrong Digits at n k (both-pass (wrongFrom Digits s at n k) (inRange at low high (numberWritten (take n (drop at s))) (k + 1)) e .0)
 
   pub low-literal : (at b k : ℕ) → b < 128 → literalAt s at b k ≡ Pass → Low s at (at + 1)
   unfolding literalAt

@@ -1,15 +1,13 @@
 -- What a step says where it stops fits a verdict: its place is below 2^16, and its value below 2^64.
--- Assumes nothing.
 use Prim.Native.Nat.{ℕ, zero, suc, _+_, _-_, _^_, _≤_, _<_}
 use mathlib.Core.Path.{_≡_, refl}
-use mathlib.Core.Bool.{Bool, true, false}
+use mathlib.Core.Bool.{Bool, true, false, cond}
 use mathlib.Core.List.{List}
 use native.Mathlib.Omega.{arith}
 use lib.Dec.{ltb, eqb, leb→le}
 use lib.ListN.{length, getD, take, drop}
-use Rattle.answer.specs.Choice.{pick}
 use Rattle.answer.specs.Steps.{must, _andThen_, _orAccept_}
-use Rattle.answer.specs.Table.{placeOfReason, valueOfReason, placeOf, valueOf}
+use Rattle.answer.specs.Table.{rowOf, placeOf, valueOf}
 use Rattle.answer.specs.declared.Answer.{Answer}
 use Rattle.answer.specs.declared.Answer.the-variants.{Refused}
 use Rattle.answer.specs.declared.Reason.{Reason}
@@ -17,7 +15,7 @@ use Rattle.answer.specs.declared.Reason.the-variants.{Length, Wrong, Range, Mis
 use Rattle.answer.specs.declared.Step.{Step}
 use Rattle.answer.specs.declared.Step.the-variants.{Pass, Stop}
 use Rattle.text.specs.Class.{allowed}
-use Rattle.text.specs.Decimal.{numberOf}
+use Rattle.text.specs.Decimal.{numberWritten}
 use Rattle.text.specs.Field.{lengthIs, present, wrongFrom, firstWrong, literalAt, inRange, digitsIn}
 use Rattle.text.specs.Ranges.{within}
 use Rattle.text.specs.declared.Set.{Set}
@@ -40,14 +38,14 @@ Short s = length s < 65000
 pub near-pass : Near Pass
 near-pass = record { small = λ r k e. let z : _≡_ {A = ℕ} 0 1 = cc in absurd (omega arith) }
 
-pub near-at : (r : Reason) (k : ℕ) → placeOfReason r < 2 ^ 16 → valueOfReason r < 2 ^ 64 → Near (Stop r k)
+pub near-at : (r : Reason) (k : ℕ) → rowOf r .place < 2 ^ 16 → rowOf r .value < 2 ^ 64 → Near (Stop r k)
 near-at r k p v = record { small = λ r′ k′ e. let q : r ≡ r′ = cc in rw (← q) (record { place = p; value = v }) }
 
-pub near-must : (t : Bool) (r : Reason) (k : ℕ) → placeOfReason r < 2 ^ 16 → valueOfReason r < 2 ^ 64 → Near (must t r k)
+pub near-must : (t : Bool) (r : Reason) (k : ℕ) → rowOf r .place < 2 ^ 16 → rowOf r .value < 2 ^ 64 → Near (must t r k)
 near-must true r k p v = near-pass
 near-must false r k p v = near-at r k p v
 
-pub near-pick : (t : Bool) (a b : Step) → Near a → Near b → Near (pick t a b)
+pub near-pick : (t : Bool) (a b : Step) → Near a → Near b → Near (cond t a b)
 near-pick true a b p q = p
 near-pick false a b p q = q
 
@@ -97,7 +95,7 @@ module _ (s : List ℕ) where
   unfolding digitsIn
   near-digits n at low high k m h =
       near-after _ _ (near-wrong Digits at n k (omega arith))
-      (λ e. near-range at low high (numberOf (take n (drop at s))) (k + 1) (omega arith) (omega (arith, digits-most s at n k 19 m e)))
+      (λ e. near-range at low high (numberWritten (take n (drop at s))) (k + 1) (omega arith) (omega (arith, digits-most s at n k 19 m e)))
 
 pub short-place : (s : List ℕ) → Short s → length s < 2 ^ 16
 short-place s h = omega arith

@@ -1,5 +1,4 @@
 -- Laws of the comparison of two texts: it says whether they are equal, and what one turn of a loop over both does.
--- Assumes nothing.
 use Prim.Native.Nat.{ℕ, _+_, _≤_, _<_}
 use mathlib.Core.Path.{_≡_, refl}
 use mathlib.Core.Bool.{true, false}

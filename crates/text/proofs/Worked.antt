@@ -1,5 +1,4 @@
 -- Worked examples: places, numbers and steps on quoted fields, one theorem.
--- Assumes nothing.
 use Prim.Native.Nat.{ℕ, _^_, _-_}
 use mathlib.Core.Path.{_≡_, refl}
 use mathlib.Core.List.{List, [], _∷_, map}
@@ -8,7 +7,7 @@ use Rattle.answer.specs.declared.Reason.the-variants.{Length, Wrong, Range}
 use Rattle.answer.specs.declared.Step.{Step}
 use Rattle.answer.specs.declared.Step.the-variants.{Pass, Stop}
 use Rattle.text.specs.Class.{classOf}
-use Rattle.text.specs.Decimal.{decimal, numberOf, fitted}
+use Rattle.text.specs.Decimal.{decimal, numberWritten, fitted}
 use Rattle.text.specs.Field.{firstPlace, lengthIs, wrongFrom, firstWrong, literalAt, inRange, digitsIn, twoDigits, fourDigits}
 use Rattle.text.specs.Quote.{bytesOf}
 use Rattle.text.specs.declared.Class.{Class}
@@ -27,7 +26,7 @@ places = firstPlace 46 (bytesOf "1.2.3") ∷ firstPlace 46 (bytesOf "100") ∷ f
 
 abbrev numbers : List Number
 numbers =
-    map (λ t. fitted (numberOf (bytesOf t))) ("" ∷ "0042" ∷ "18446744073709551615" ∷ "18446744073709551616" ∷ "000018446744073709551615" ∷ [])
+    map (λ t. fitted (numberWritten (bytesOf t))) ("" ∷ "0042" ∷ "18446744073709551615" ∷ "18446744073709551616" ∷ "000018446744073709551615" ∷ [])
 
 -- steps on a date and on a BIC
 abbrev steps : List Step
@@ -59,5 +58,5 @@ pub worked : (ends ≡ Other ∷ Digit ∷ Digit ∷ Other ∷ Other ∷ Capital
     ∷ Stop (Wrong 4) 302
     ∷ Pass
     ∷ [])
-unfolding classOf firstPlace fitted numberOf decimal lengthIs firstWrong wrongFrom literalAt inRange digitsIn _andThen_
+unfolding classOf firstPlace fitted numberWritten decimal lengthIs firstWrong wrongFrom literalAt inRange digitsIn _andThen_
 worked = (refl, refl, refl, refl)

@@ -1,19 +1,18 @@
--- The class of a byte, and the sets of bytes that the rules allow. Document 01: "Letters and digits are ASCII throughout."
--- Assumes nothing.
+-- The class of a byte, and the sets of bytes that the rules allow. SCOPE: "Letters and digits are ASCII throughout."
 use Prim.Native.Nat.{ℕ}
 use mathlib.Core.Bool.{Bool, true, false}
 use mathlib.Core.List.{List, [], _∷_}
-use Rattle.text.specs.Ranges.{Row, row, find}
+use Rattle.text.specs.Ranges.{Span, span, find}
 use Rattle.text.specs.declared.Class.{Class}
 use Rattle.text.specs.declared.Class.the-variants.{Digit, Capital, Small, Other}
 use Rattle.text.specs.declared.Set.{Set}
 use Rattle.text.specs.declared.Set.the-variants.{Digits, Capitals, Letters, CapitalsDigits, LettersDigits}
 
-abbrev pub classes : List (Row Class)
+abbrev pub classes : List (Span Class)
 classes =
-    row 0x30 0x39 Digit ∷  -- 0 to 9
-    row 0x41 0x5A Capital ∷  -- A to Z
-    row 0x61 0x7A Small ∷  -- a to z
+    span 0x30 0x39 Digit ∷  -- 0 to 9
+    span 0x41 0x5A Capital ∷  -- A to Z
+    span 0x61 0x7A Small ∷  -- a to z
     []
 
 unfoldable pub classOf : ℕ → Class

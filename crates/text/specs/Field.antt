@@ -1,24 +1,23 @@
--- The steps that the rules of document 01 share, over a field's bytes. Past its end a field is read as 0, which no rule asks for.
--- Assumes nothing.
+-- The steps that the rules of SCOPE share, over a field's bytes. Past its end a field is read as 0, which no rule asks for.
 use Prim.Native.Nat.{ℕ, zero, suc, _+_, _-_}
 use mathlib.Core.List.{List, [], _∷_}
 use lib.Dec.{eqb, ltb}
 use lib.ListN.{length, getD, take, drop}
-use Rattle.answer.specs.Choice.{pick}
+use mathlib.Core.Bool.{cond}
 use Rattle.answer.specs.Steps.{must, _andThen_}
 use Rattle.answer.specs.declared.Reason.the-variants.{Length, Wrong, Range, Missing}
 use Rattle.answer.specs.declared.Step.{Step}
 use Rattle.answer.specs.declared.Step.the-variants.{Pass}
 use Rattle.text.specs.Ranges.{within}
 use Rattle.text.specs.Class.{allowed}
-use Rattle.text.specs.Decimal.{numberOf}
+use Rattle.text.specs.Decimal.{numberWritten}
 use Rattle.text.specs.declared.Set.{Set}
 use Rattle.text.specs.declared.Set.the-variants.{Digits}
 
 -- the place of the first byte b, and the field's length where there is none
 unfoldable pub firstPlace : ℕ → List ℕ → ℕ
 firstPlace b [] = 0
-firstPlace b (x ∷ s) = pick (eqb x b) 0 (suc (firstPlace b s))
+firstPlace b (x ∷ s) = cond (eqb x b) 0 (suc (firstPlace b s))
 
 -- in each step, k is its check number
 -- n bytes, no more and no fewer
@@ -49,7 +48,7 @@ inRange at low high n k = must (within low high n) (Range at n) k
 -- n digits at a place, and then their range, whose check number is the next: "both digits of a pair are tested before its range"
 unfoldable pub digitsIn : ℕ → List ℕ → ℕ → ℕ → ℕ → ℕ → Step
 digitsIn n s at low high k =
-    wrongFrom Digits s at n k andThen inRange at low high (numberOf (take n (drop at s))) (k + 1)
+    wrongFrom Digits s at n k andThen inRange at low high (numberWritten (take n (drop at s))) (k + 1)
 
 abbrev pub twoDigits : List ℕ → ℕ → ℕ → ℕ → ℕ → Step
 twoDigits s at low high k = digitsIn 2 s at low high k

@@ -5,7 +5,7 @@ ghost use lib.Dec.{eqb, ltb};
 ghost use lib.ListN.{length, getD, take, drop};
 ghost use Rattle.text.specs.Ranges.{within};
 ghost use Rattle.text.specs.Class.{classOf, holds, allowed};
-ghost use Rattle.text.specs.Decimal.{digitOf, numberOf, fitted};
+ghost use Rattle.text.specs.Decimal.{digitOf, numberWritten, fitted};
 ghost use Rattle.text.specs.Field.{
   firstPlace,
   lengthIs,
@@ -159,7 +159,7 @@ fn with_digit(n: u64, d: u64) -> Number
 
 // The number that a text of digits writes.
 pub fn number_of(t: &[u8]) -> Number
-    ensures { λ r. ⌜ r ≡ fitted (numberOf (now (t .entry))) ⌝ }
+    ensures { λ r. ⌜ r ≡ fitted (numberWritten (now (t .entry))) ⌝ }
 {
     let mut n: u64 = 0;
     let mut i = 0;
@@ -261,8 +261,8 @@ pub fn in_range(i: usize, low: u64, high: u64, n: u64, check: u32) -> Step
 
 // The number that n digits at a place write; digits_in calls it only where they stand there.
 fn value_at(s: &[u8], i: usize, n: usize) -> u64
-    requires { ⌜ (i + n ≤ length (now s)) × (numberOf (take n (drop i (now s))) < 10000) ⌝ }
-    ensures { λ r. ⌜ r ≡ numberOf (take n (drop i (now (s .entry)))) ⌝ }
+    requires { ⌜ (i + n ≤ length (now s)) × (numberWritten (take n (drop i (now s))) < 10000) ⌝ }
+    ensures { λ r. ⌜ r ≡ numberWritten (take n (drop i (now (s .entry)))) ⌝ }
 {
     let mut v: u64 = 0;
     let mut k = 0;

@@ -1,8 +1,7 @@
 -- However the input is cut into reads and calls, what is done in sum is the first of the input's records, and the text is their lines.
--- Assumes nothing.
 use Prim.Native.Nat.{ℕ, _+_, _*_, _^_, _≤_, _<_}
 use mathlib.Core.Path.{_≡_, refl, sym, ap, subst, _∙_}
-use mathlib.Core.Bool.{Bool, true, false}
+use mathlib.Core.Bool.{Bool, true, false, cond}
 use mathlib.Core.List.{List, [], _∷_, _++_, append-assoc, append-nil}
 use native.Mathlib.Nat.{add-zero}
 use native.Mathlib.Omega.{arith}
@@ -10,8 +9,7 @@ use lib.Dec.{ltb, eqb}
 use borrow.Author.Tests.{ltb-false, ne-eqb, le-ltb}
 use lib.ListN.{length, take, drop, length-append, length-drop}
 use lib.Seq.{drop-append-le, drop-drop, length-take-le}
-use Rattle.answer.specs.Choice.{pick}
-use Rattle.batch.specs.Number.{numberAt}
+use Rattle.batch.specs.Number.{littleAt}
 use Rattle.batch.specs.Head.{headLimit, headOf}
 use Rattle.batch.specs.Verdict.{verdictSize}
 use Rattle.batch.specs.Records.{recordsOf, verdictsOf, sizes}
@@ -25,20 +23,20 @@ use Rattle.batch.proofs.Numbers.{number-append}
 use Rattle.batch.proofs.Heads.{stands}
 use Rattle.batch.proofs.Records.{length-verdictsOf, none, walks, unique, append}
 use Rattle.batch.proofs.GoingOn.{Part, Did, part-longer, did-plus, did-call, did-all, within}
-use Rattle.report.specs.Text.{text}
+use Rattle.report.specs.Text.{verdictLines}
 use Rattle.report.proofs.Texts.{text-append}
-use Rattle.turn.specs.Turn.{linesOf}
+use Rattle.turn.specs.Turn.{callLines}
 use Rattle.turn.specs.Stream.{Event, more, call, Stream, started, taken, called, feed, input}
 
 -- the state after some events, by all that came in
 pub record Fed (offset : ℕ) (all : List ℕ) (s : Stream) : Type 0 where
   pub place : s .offset ≡ offset + s .done .read
   pub rest : s .held ≡ drop (s .done .read) all
-  pub lines : s .text ≡ text (s .done .judged) (s .done .bytes)
+  pub lines : s .text ≡ verdictLines (s .done .judged) (s .done .bytes)
   pub part : Part all offset (s .done)
 
 fed-start : (offset : ℕ) → Fed offset [] (started offset)
-unfolding text verdictsOf sizes
+unfolding verdictLines verdictsOf sizes
 fed-start offset =
     record { place = sym (add-zero offset); rest = refl; lines = refl; part = record { most = omega arith; read = refl; bytes = refl } }
 
@@ -72,7 +70,7 @@ fed-call offset all s c h f =
       record {
         place = omega (arith, f .place);
         rest = ap (drop (r .read)) (f .rest) ∙ drop-drop (r .read) (d .read) all;
-        lines = ap (λ (t : List ℕ). t ++ linesOf r) (f .lines) ∙ sym (text-append (d .judged) (r .judged) (d .bytes) (sumOf r .bytes) (part-bytes all offset d (f .part)));
+        lines = ap (λ (t : List ℕ). t ++ callLines r) (f .lines) ∙ sym (text-append (d .judged) (r .judged) (d .bytes) (sumOf r .bytes) (part-bytes all offset d (f .part)));
         part = g .part;
       },
       g,
@@ -92,7 +90,7 @@ module _ (es : List Event) (c : Call) (offset : ℕ) (h : offset + length (input
   ended = fed-call offset (input es) (feed es (started offset)) c h (fed offset es [] (started offset) h (fed-start offset))
 
 -- a length above the limit is one whatever follows
-too-long : (b1 b2 b3 b4 : Bool) (k n : ℕ) → endOf (pick b1 End (pick b2 Short (pick b3 TooLong (pick b4 CutShort (Record k n))))) ≡ Long
+too-long : (b1 b2 b3 b4 : Bool) (k n : ℕ) → endOf (cond b1 End (cond b2 Short (cond b3 TooLong (cond b4 CutShort (Record k n))))) ≡ Long
     → (b2 ≡ false) × (b3 ≡ true)
 too-long true b2 b3 b4 k n e = let z : _≡_ {A = ℕ} 0 1 = cc in absurd (omega arith)
 too-long false true b3 b4 k n e = let z : _≡_ {A = ℕ} 0 1 = cc in absurd (omega arith)
@@ -104,8 +102,8 @@ long-head : (s rest : List ℕ) → endOf (headOf s) ≡ Long → headOf (s ++ r
 unfolding headOf
 long-head s rest e =
     let l = length s in
-    let v = numberAt s 0 2 in
-    let p = too-long (eqb l 0) (ltb l 4) (ltb headLimit v) (ltb l (4 + v)) (numberAt s 2 2) v e in
+    let v = littleAt s 0 2 in
+    let p = too-long (eqb l 0) (ltb l 4) (ltb headLimit v) (ltb l (4 + v)) (littleAt s 2 2) v e in
     let f = ltb-false l 4 (p .0) in
     let a = length-append s rest in
     rw (number-append s rest 0 2 (omega arith))

@@ -1,17 +1,15 @@
 -- Laws of a call's sizes, and of one turn.
--- Assumes nothing.
 use Prim.Native.Nat.{ℕ, _+_, _*_, _/_, _^_, _≤_, _<_}
 use mathlib.Core.Path.{_≡_, refl, sym, ap, subst, _∙_}
 use mathlib.Core.Logic.{_⊎_, inl, inr, ⊎-elim}
-use mathlib.Core.Bool.{Bool, true, false}
+use mathlib.Core.Bool.{Bool, true, false, cond}
 use mathlib.Core.List.{List, _++_}
 use native.Mathlib.Omega.{arith}
 use lib.Dec.{ltb, leb, eqb}
 use lib.ListN.{length, take, drop, length-append, length-drop}
 use lib.Seq.{take-append-le, length-take-le}
 use borrow.Author.Tests.{ltb-true, ltb-false, leb-false, eqb-true}
-use Rattle.answer.specs.Choice.{pick}
-use Rattle.batch.specs.Number.{numberAt, Bytes}
+use Rattle.batch.specs.Number.{littleAt, Bytes}
 use Rattle.batch.specs.Head.{headLimit, headOf}
 use Rattle.batch.specs.Verdict.{verdictSize}
 use Rattle.batch.specs.Walk.{Outcome, stopped, callOf}
@@ -32,17 +30,17 @@ use Rattle.report.specs.Text.{lineMost, rendered, Rendering}
 use Rattle.report.specs.Text as report
 use Rattle.report.specs.declared.Rendered.{Rendered}
 use Rattle.report.proofs.Texts.{rendered-all}
-use Rattle.turn.specs.Turn.{roomOf, turning, turnOf, seen}
+use Rattle.turn.specs.Turn.{roomOf, turning, turnOf, turningOf}
 
 -- what stands where a call ended: nothing, or fewer bytes than the longest record has
-no-bytes : (b1 b2 b3 b4 : Bool) (k n : ℕ) → endOf (pick b1 End (pick b2 Short (pick b3 TooLong (pick b4 CutShort (Record k n))))) ≡ Finished → b1 ≡ true
+no-bytes : (b1 b2 b3 b4 : Bool) (k n : ℕ) → endOf (cond b1 End (cond b2 Short (cond b3 TooLong (cond b4 CutShort (Record k n))))) ≡ Finished → b1 ≡ true
 no-bytes true b2 b3 b4 k n e = refl
 no-bytes false true b3 b4 k n e = let z : _≡_ {A = ℕ} 0 1 = cc in absurd (omega arith)
 no-bytes false false true b4 k n e = let z : _≡_ {A = ℕ} 0 1 = cc in absurd (omega arith)
 no-bytes false false false true k n e = let z : _≡_ {A = ℕ} 0 1 = cc in absurd (omega arith)
 no-bytes false false false false k n e = let z : _≡_ {A = ℕ} 0 1 = cc in absurd (omega arith)
 
-few-bytes : (b1 b2 b3 b4 : Bool) (k n : ℕ) → endOf (pick b1 End (pick b2 Short (pick b3 TooLong (pick b4 CutShort (Record k n))))) ≡ Cut
+few-bytes : (b1 b2 b3 b4 : Bool) (k n : ℕ) → endOf (cond b1 End (cond b2 Short (cond b3 TooLong (cond b4 CutShort (Record k n))))) ≡ Cut
     → (b2 ≡ true) ⊎ ((b3 ≡ false) × (b4 ≡ true))
 few-bytes true b2 b3 b4 k n e = let z : _≡_ {A = ℕ} 0 1 = cc in absurd (omega arith)
 few-bytes false true b3 b4 k n e = inl refl
@@ -54,16 +52,16 @@ at-end : (s : List ℕ) → endOf (headOf s) ≡ Finished → length s ≡ 0
 unfolding headOf
 at-end s e =
     let l = length s in
-    let v = numberAt s 0 2 in
-    eqb-true l 0 (no-bytes (eqb l 0) (ltb l 4) (ltb headLimit v) (ltb l (4 + v)) (numberAt s 2 2) v e)
+    let v = littleAt s 0 2 in
+    eqb-true l 0 (no-bytes (eqb l 0) (ltb l 4) (ltb headLimit v) (ltb l (4 + v)) (littleAt s 2 2) v e)
 
 at-cut : (s : List ℕ) → endOf (headOf s) ≡ Cut → length s < 4 + headLimit
 unfolding headOf
 at-cut s e =
     let l = length s in
-    let v = numberAt s 0 2 in
+    let v = littleAt s 0 2 in
     ⊎-elim (λ w. omega (arith, ltb-true l 4 w)) (λ w. omega (arith, ltb-false headLimit v (w .0), ltb-true l (4 + v) (w .1)))
-    (few-bytes (eqb l 0) (ltb l 4) (ltb headLimit v) (ltb l (4 + v)) (numberAt s 2 2) v e)
+    (few-bytes (eqb l 0) (ltb l 4) (ltb headLimit v) (ltb l (4 + v)) (littleAt s 2 2) v e)
 
 -- the sizes of what a call did
 pub record Sized (batch : List ℕ) (offset : ℕ) (out : List ℕ) (o : Outcome) : Type 0 where
@@ -141,14 +139,14 @@ room-fits : (o t : ℕ) → (roomOf o t ≤ o) × (roomOf o t ≤ t / lineMost *
 room-fits o t = go (ltb (t / lineMost * verdictSize) o) refl
   where
     go : (b : Bool) → ltb (t / lineMost * verdictSize) o ≡ b
-        → (pick b (t / lineMost * verdictSize) o ≤ o) × (pick b (t / lineMost * verdictSize) o ≤ t / lineMost * verdictSize)
+        → (cond b (t / lineMost * verdictSize) o ≤ o) × (cond b (t / lineMost * verdictSize) o ≤ t / lineMost * verdictSize)
     go true e = (omega (arith, ltb-true (t / lineMost * verdictSize) o e), omega arith)
     go false e = (omega arith, omega (arith, ltb-false (t / lineMost * verdictSize) o e))
 
 pub room-least : (o t : ℕ) → verdictSize ≤ o → lineMost ≤ t → verdictSize ≤ roomOf o t
 room-least o t f g = go (ltb (t / lineMost * verdictSize) o)
   where
-    go : (b : Bool) → verdictSize ≤ pick b (t / lineMost * verdictSize) o
+    go : (b : Bool) → verdictSize ≤ cond b (t / lineMost * verdictSize) o
     go true = omega arith
     go false = f
 
@@ -157,30 +155,30 @@ room-in o t n h = rw h (room-fits o t .0)
 
 -- one turn, from what `run` and `lines` ensure
 module _ (held : List ℕ) (offset : ℕ) (out text₀ : List ℕ) (budget n : ℕ) (hn : n ≡ roomOf (length out) (length text₀))
-    (r : Ran) (last : List ℕ) (q : walk.seen r last ≡ callOf held offset (take n out) budget) (inside : r .written ≤ length last) where
+    (r : Ran) (last : List ℕ) (q : walk.outcomeOf r last ≡ callOf held offset (take n out) budget) (inside : r .written ≤ length last) where
   pub whole-out : r .written ≤ length (last ++ drop n out)
   whole-out = omega (arith, inside, length-append last (drop n out))
 
   pub verdicts-are : r .written ≡ length (take (r .written) (last ++ drop n out))
   verdicts-are = sym (length-take-le (r .written) (last ++ drop n out) whole-out)
 
-  sizes : Sized held offset (take n out) (walk.seen r last)
+  sizes : Sized held offset (take n out) (walk.outcomeOf r last)
   sizes = subst (λ (o : Outcome). Sized held offset (take n out) o) (sym q) (sized held offset (take n out) budget)
 
-  module _ (text₁ : List ℕ) (t : Rendered) (l : report.seen t text₁ ≡ rendered (take (r .written) (last ++ drop n out)) text₀)
+  module _ (text₁ : List ℕ) (t : Rendered) (l : report.renderingOf t text₁ ≡ rendered (take (r .written) (last ++ drop n out)) text₀)
       (b : Bytes (last ++ drop n out)) where
-    all-lines : report.seen t text₁ ≡ report.rendering (r .judged) (take (r .written) last) text₀
+    all-lines : report.renderingOf t text₁ ≡ report.rendering (r .judged) (take (r .written) last) text₀
     all-lines =
         rw (take-append-le (r .written) last (drop n out) inside) at
         (l ∙ rendered-all (r .judged) (take (r .written) (last ++ drop n out)) text₀
         (bytes-take (last ++ drop n out) (r .written) b) (sym verdicts-are ∙ sizes .size)
         (omega (arith, sizes .size, sizes .room, length-take-le n out (room-in (length out) (length text₀) n hn), hn, room-fits (length out) (length text₀) .1)))
 
-    by-call : seen (record { stop = r .stop; judged = r .judged; read = r .read; text = t .written }) (last ++ drop n out) text₁
-        ≡ turning (walk.seen r last) (drop n out) text₀
+    by-call : turningOf (record { stop = r .stop; judged = r .judged; read = r .read; text = t .written }) (last ++ drop n out) text₁
+        ≡ turning (walk.outcomeOf r last) (drop n out) text₀
     by-call = rw (ap (λ (x : Rendering). x .written) all-lines, ap (λ (x : Rendering). x .out) all-lines)
 
-    pub turned : seen (record { stop = r .stop; judged = r .judged; read = r .read; text = t .written }) (last ++ drop n out) text₁
+    pub turned : turningOf (record { stop = r .stop; judged = r .judged; read = r .read; text = t .written }) (last ++ drop n out) text₁
         ≡ turnOf held offset out text₀ budget
     unfolding turnOf
     turned =

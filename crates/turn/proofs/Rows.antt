@@ -1,5 +1,4 @@
 -- The lines of records' verdicts are these records' rows.
--- Assumes nothing.
 use Prim.Native.Nat.{ℕ, zero, suc, _+_, _^_, _≤_, _<_}
 use mathlib.Core.Path.{_≡_, refl}
 use mathlib.Core.List.{List, _++_}
@@ -10,19 +9,19 @@ use Rattle.field.specs.Field.{checkField}
 use Rattle.batch.specs.Number.{Bytes}
 use Rattle.batch.specs.Head.{headOf}
 use Rattle.batch.specs.Verdict.{verdictSize}
-use Rattle.batch.specs.Records.{Entry, entryAt, verdictOf, verdictsOf}
+use Rattle.batch.specs.Records.{RecordAt, recordAt, verdictOf, verdictsOf}
 use Rattle.batch.specs.declared.Head.the-variants.{Record}
 use Rattle.batch.proofs.Numbers.{bytes-drop, number-most}
 use Rattle.batch.proofs.Heads.{whole}
 use Rattle.batch.proofs.Laws.{length-verdictOf}
 use Rattle.batch.proofs.Records.{Walks, none, one}
 use Rattle.batch.proofs.Whole.{Holds, record-reads}
-use Rattle.report.specs.Text.{text}
+use Rattle.report.specs.Text.{verdictLines}
 use Rattle.report.proofs.Promises.{line-reads}
-use Rattle.turn.specs.Rows.{rowsOf}
+use Rattle.turn.specs.Rows.{recordLines}
 
 -- a whole record at the start of a batch of bytes: a verdict holds its numbers
-holds : (s : List ℕ) (o k n : ℕ) → headOf s ≡ Record k n → Bytes s → o < 2 ^ 64 → Holds (entryAt s o k n)
+holds : (s : List ℕ) (o k n : ℕ) → headOf s ≡ Record k n → Bytes s → o < 2 ^ 64 → Holds (recordAt s o k n)
 holds s o k n e b h =
     let w = whole s k n e in
     record {
@@ -32,13 +31,13 @@ holds s o k n e b h =
     }
 
 -- the lines of the verdicts of the first j records are these records' rows
-pub text-rows : {s : List ℕ} {o : ℕ} {es : List Entry} → Walks s o es → Bytes s → o + length s < 2 ^ 64 → (j : ℕ) → j ≤ length es
-    → text j (verdictsOf (take j es)) ≡ rowsOf (take j es)
-unfolding text verdictsOf
+pub text-rows : {s : List ℕ} {o : ℕ} {es : List RecordAt} → Walks s o es → Bytes s → o + length s < 2 ^ 64 → (j : ℕ) → j ≤ length es
+    → verdictLines j (verdictsOf (take j es)) ≡ recordLines (take j es)
+unfolding verdictLines verdictsOf
 text-rows w b far zero h = refl
 text-rows (none e) b far (suc j) h = absurd (omega arith)
 text-rows {s} {o} (one k n es e w) b far (suc j) h =
-    let a = entryAt s o k n in
+    let a = recordAt s o k n in
     let v = verdictsOf (take j es) in
     let f = whole s k n e .fits in
     let i = text-rows w (bytes-drop s (4 + n) b) (omega (arith, length-drop (4 + n) s)) j (omega arith) in

@@ -1,12 +1,11 @@
--- Worked examples: document 01's input and its four lines, no input, an input cut short, and a length above the limit.
--- Assumes nothing.
+-- Worked examples: SCOPE's input and its four lines, no input, an input cut short, and a length above the limit.
 use Prim.Native.Nat.{ℕ}
 use mathlib.Core.Path.{_≡_, refl}
 use mathlib.Core.List.{List, [], _∷_, _++_, map}
 use lib.ListN.{take}
 use Rattle.answer.specs.Steps.{_andThen_, _orAccept_}
 use Rattle.text.specs.Class.{classOf}
-use Rattle.text.specs.Decimal.{decimal, numberOf}
+use Rattle.text.specs.Decimal.{decimal, numberWritten}
 use Rattle.text.specs.Field.{present, firstPlace, lengthIs, wrongFrom, firstWrong}
 use Rattle.text.specs.Quote.{bytesOf}
 use Rattle.text.specs.Same.{sameText}
@@ -20,8 +19,8 @@ use Rattle.batch.specs.Head.{headOf}
 use Rattle.batch.specs.Verdict.{answerBytes, verdict}
 use Rattle.batch.specs.Records.{recordsPast, sizes, verdictOf, verdictsOf}
 use Rattle.batch.proofs.Worked.{example}
-use Rattle.report.specs.Digits.{digitsIn, digitsOf}
-use Rattle.report.specs.Text.{field, row, line, text, heading, named, lastLine}
+use Rattle.report.specs.Digits.{decimalDigitsIn, decimalDigits}
+use Rattle.report.specs.Text.{field, numbersLine, verdictLine, verdictLines, heading, named, lastLine}
 use Rattle.turn.specs.Output.{outputOf}
 
 abbrev inputs : List (List ℕ)
@@ -33,5 +32,5 @@ pub worked : map (λ (b : List ℕ). outputOf b 0) inputs
     ∷ bytesOf "offset kind answer place number\n0 7 0 0 0\nstop 33 judged 1 read 6\n"
     ∷ bytesOf "offset kind answer place number\n0 7 0 0 0\n6 9 0 0 100050\nstop 35 judged 2 read 17\n"
     ∷ []
-unfolding present classOf decimal numberOf firstPlace lengthIs wrongFrom firstWrong leadOf needed wellFormed scalarOf charOf front charsPast widths validPrefix onList sameText wellSpelt codeRule countries countryAnswer cents.parsed cents.below64 cents.digitsAt cents.numberAt cents.digits cents.whole cents.wholeNumber cents.past cents.fraction cents.worth cents.cents cents.parts cents.parseAmountCents admission ruleOf checkField _andThen_ _orAccept_ headOf answerBytes verdict recordsPast sizes verdictOf verdictsOf digitsIn digitsOf field row line text heading named lastLine outputOf
+unfolding present classOf decimal numberWritten firstPlace lengthIs wrongFrom firstWrong leadOf needed wellFormed scalarOf charOf front charsPast widths validPrefix onList sameText wellSpelt codeRule countries countryAnswer cents.parsed cents.below64 cents.digitsAt cents.numberBetween cents.digits cents.whole cents.wholeNumber cents.past cents.fraction cents.worth cents.cents cents.parts cents.parseAmountCents admission ruleOf checkField _andThen_ _orAccept_ headOf answerBytes verdict recordsPast sizes verdictOf verdictsOf decimalDigitsIn decimalDigits field numbersLine verdictLine verdictLines heading named lastLine outputOf
 worked = refl

@@ -1,17 +1,16 @@
--- Document 01, "The batch": the program's text has a row for each record, of its offset, its kind and the three numbers of its field's answer.
--- Assumes nothing.
+-- SCOPE, "The batch": the program's text has a row for each record, of its offset, its kind and the three numbers of its field's answer.
 use Prim.Native.Nat.{ℕ}
 use mathlib.Core.List.{List, [], _∷_, _++_}
 use Rattle.answer.specs.Table.{numberOf, placeOf, valueOf}
 use Rattle.field.specs.Field.{checkField}
-use Rattle.batch.specs.Records.{Entry}
-use Rattle.report.specs.Text.{row}
+use Rattle.batch.specs.Records.{RecordAt}
+use Rattle.report.specs.Text.{numbersLine}
 
-abbrev pub rowOf : Entry → List ℕ
-rowOf e =
+abbrev pub recordLine : RecordAt → List ℕ
+recordLine e =
     let a = checkField (e .kind) (e .value) in
-    row (e .offset ∷ e .kind ∷ numberOf a ∷ placeOf a ∷ valueOf a ∷ [])
+    numbersLine (e .offset ∷ e .kind ∷ numberOf a ∷ placeOf a ∷ valueOf a ∷ [])
 
-abbrev pub rowsOf : List Entry → List ℕ
-rowsOf [] = []
-rowsOf (e ∷ es) = rowOf e ++ rowsOf es
+abbrev pub recordLines : List RecordAt → List ℕ
+recordLines [] = []
+recordLines (e ∷ es) = recordLine e ++ recordLines es

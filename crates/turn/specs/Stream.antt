@@ -1,12 +1,11 @@
--- Document 01, "The batch": the program's run on lists. Bytes come in, and calls are made on those at hand, in any order: "it goes on after 31, 32 or a record that only its buffer cuts".
--- Assumes nothing.
+-- SCOPE, "The batch": the program's run on lists. Bytes come in, and calls are made on those at hand, in any order: "it goes on after 31, 32 or a record that only its buffer cuts".
 use Prim.Native.Nat.{ℕ, _+_}
 use mathlib.Core.List.{List, [], _∷_, _++_}
 use lib.ListN.{drop}
 use Rattle.batch.specs.Walk.{callOf}
 use Rattle.batch.specs.GoingOn.{Sum, sumOf, plus, Call}
 use Rattle.batch.specs.declared.Stop.the-variants.{Finished}
-use Rattle.turn.specs.Turn.{linesOf}
+use Rattle.turn.specs.Turn.{callLines}
 
 -- bytes that were read in, or a call with its budget and output
 pub data Event : Type 0 where
@@ -30,7 +29,7 @@ taken b s = record { held = s .held ++ b; offset = s .offset; done = s .done; te
 abbrev pub called : Call → Stream → Stream
 called c s =
     let r = callOf (s .held) (s .offset) (c .out) (c .budget) in
-    record { held = drop (r .read) (s .held); offset = s .offset + r .read; done = plus (s .done) (sumOf r); text = s .text ++ linesOf r }
+    record { held = drop (r .read) (s .held); offset = s .offset + r .read; done = plus (s .done) (sumOf r); text = s .text ++ callLines r }
 
 abbrev pub next : Event → Stream → Stream
 next (more b) s = taken b s

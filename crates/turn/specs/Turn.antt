@@ -1,25 +1,24 @@
--- Document 01, "The batch": the program "reads a batch from standard input and writes text"; one turn of it is a call on the bytes at hand, and a line for each verdict.
--- Assumes nothing.
+-- SCOPE, "The batch": the program "reads a batch from standard input and writes text"; one turn of it is a call on the bytes at hand, and a line for each verdict.
 use Prim.Native.Nat.{ℕ, _*_, _/_}
 use mathlib.Core.List.{List, _++_}
 use lib.Dec.{ltb}
 use lib.ListN.{length, take, drop}
-use Rattle.answer.specs.Choice.{pick}
+use mathlib.Core.Bool.{cond}
 use Rattle.batch.specs.Verdict.{verdictSize}
 use Rattle.batch.specs.Walk.{Outcome, callOf}
 use Rattle.batch.specs.declared.Stop.{Stop}
-use Rattle.report.specs.Text.{text, atStart, lineMost}
+use Rattle.report.specs.Text.{verdictLines, atStart, lineMost}
 use Rattle.turn.specs.declared.Turned.{Turned}
 
 -- the room for verdicts: of the output as much as the longest lines fit the text
 abbrev pub roomOf : ℕ → ℕ → ℕ
 roomOf out text =
     let most = text / lineMost * verdictSize in
-    pick (ltb most out) most out
+    cond (ltb most out) most out
 
 -- the lines of a call's verdicts
-abbrev pub linesOf : Outcome → List ℕ
-linesOf o = text (o .judged) (take (o .written) (o .out))
+abbrev pub callLines : Outcome → List ℕ
+callLines o = verdictLines (o .judged) (take (o .written) (o .out))
 
 -- what a turn answers, and what the output and the text then hold
 pub record Turning : Type 0 where
@@ -37,9 +36,9 @@ turning o rest text =
       stop = o .stop;
       judged = o .judged;
       read = o .read;
-      written = length (linesOf o);
+      written = length (callLines o);
       out = o .out ++ rest;
-      text = atStart (linesOf o) text;
+      text = atStart (callLines o) text;
     }
 
 unfoldable pub turnOf : List ℕ → ℕ → List ℕ → List ℕ → ℕ → Turning
@@ -48,5 +47,5 @@ turnOf held offset out text budget =
     turning (callOf held offset (take n out) budget) (drop n out) text
 
 -- an answer of the code, with the output and the text
-abbrev pub seen : Turned → List ℕ → List ℕ → Turning
-seen r out text = record { stop = r .stop; judged = r .judged; read = r .read; written = r .text; out = out; text = text }
+abbrev pub turningOf : Turned → List ℕ → List ℕ → Turning
+turningOf r out text = record { stop = r .stop; judged = r .judged; read = r .read; written = r .text; out = out; text = text }

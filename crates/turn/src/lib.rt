@@ -1,6 +1,6 @@
 // One turn of the program: a call on the bytes at hand, and the lines of its verdicts. No input and no output.
 ghost use mathlib.Core.Path.{_≡_};
-ghost use Rattle.turn.specs.Turn.{roomOf, turnOf, seen};
+ghost use Rattle.turn.specs.Turn.{roomOf, turnOf, turningOf};
 use batch::Stop;
 
 // Why the call stopped, records judged, bytes read, and bytes of text written.
@@ -20,7 +20,7 @@ fn room(out: usize, text: usize) -> usize
 }
 
 pub fn turn(held: &[u8], offset: u64, out: &mut [u8], text: &mut [u8], budget: u64) -> Turned
-    ensures { λ r. ⌜ seen r (now (out .exit)) (now (text .exit)) ≡ turnOf (now (held .entry)) offset (now (out .entry)) (now (text .entry)) budget ⌝ }
+    ensures { λ r. ⌜ turningOf r (now (out .exit)) (now (text .exit)) ≡ turnOf (now (held .entry)) offset (now (out .entry)) (now (text .entry)) budget ⌝ }
 {
     let n = room(out.len(), text.len());
     let r = batch::run(held, offset, &mut out[..n], budget);

@@ -1,8 +1,7 @@
 -- Laws of ASCII texts: what one turn of a loop over their bytes does, each byte's bound, and their characters, which are their bytes.
--- Assumes nothing.
 use Prim.Native.Nat.{ℕ, zero, suc, _+_, _≤_, _<_}
 use mathlib.Core.Path.{_≡_, refl, sym, ap, _∙_}
-use mathlib.Core.Bool.{Bool, true, false}
+use mathlib.Core.Bool.{Bool, true, false, _&&_}
 use mathlib.Core.List.{List, [], _∷_, _++_, map}
 use native.Mathlib.Numerals.{add-one}
 use native.Mathlib.Omega.{arith}
@@ -11,13 +10,12 @@ use lib.Bits.{bitOr, or-add-and, and-le-l, and-le-r, or-lt}
 use lib.Dec.{ltb, ltb→lt}
 use lib.ListN.{length, getD, take, drop, take-append-drop, drop-of-length-le}
 use lib.Seq.{drop-cons, take-take, take-add}
-use Rattle.answer.specs.Choice.{both}
 use Rattle.text.proofs.Ranges.{is-true, both-parts}
 use Rattle.utf8.specs.Chars.{Ch, ch, chars, charsPast, widths, validPrefix, ascii}
 use Rattle.utf8.proofs.Chars.{ascii-at, chars-char}
 
 -- two numbers are below 128 where the bits of either one are
-bits-below : (a b : ℕ) → ltb (bitOr a b) 128 ≡ both (ltb a 128) (ltb b 128)
+bits-below : (a b : ℕ) → ltb (bitOr a b) 128 ≡ (ltb a 128 && ltb b 128)
 bits-below a b = go (ltb a 128) (ltb b 128) refl refl
   where
     least : a ≤ bitOr a b
@@ -26,28 +24,28 @@ bits-below a b = go (ltb a 128) (ltb b 128) refl refl
     least-2 : b ≤ bitOr a b
     least-2 = omega (arith, or-add-and a b, and-le-l a b)
 
-    go : (p q : Bool) → ltb a 128 ≡ p → ltb b 128 ≡ q → ltb (bitOr a b) 128 ≡ both p q
+    go : (p q : Bool) → ltb a 128 ≡ p → ltb b 128 ≡ q → ltb (bitOr a b) 128 ≡ (p && q)
     go true true e f = lt-ltb (bitOr a b) 128 (or-lt 7 a b (ltb-true a 128 e) (ltb-true b 128 f))
     go true false e f = le-ltb (bitOr a b) 128 (omega (arith, least-2, ltb-false b 128 f))
     go false q e f = le-ltb (bitOr a b) 128 (omega (arith, least, ltb-false a 128 e))
 
-both-assoc : (a b c : Bool) → both (both a b) c ≡ both a (both b c)
+both-assoc : (a b c : Bool) → ((a && b) && c) ≡ (a && (b && c))
 both-assoc true b c = refl
 both-assoc false b c = refl
 
-both-true : (a : Bool) → both a true ≡ a
+both-true : (a : Bool) → (a && true) ≡ a
 both-true true = refl
 both-true false = refl
 
 -- the bits so far and the bytes that are left say whether a text is ASCII: one byte more, and none left
 pub ascii-more : (s : List ℕ) (i h : ℕ) → i < length s
-    → both (ltb h 128) (ascii (drop i s)) ≡ both (ltb (bitOr h (getD s i 0)) 128) (ascii (drop (i + 1) s))
+    → (ltb h 128 && ascii (drop i s)) ≡ (ltb (bitOr h (getD s i 0)) 128 && ascii (drop (i + 1) s))
 unfolding ascii
 ascii-more s i h k =
     rw (drop-cons s i 0 k, add-one i, bits-below h (getD s i 0))
     (sym (both-assoc (ltb h 128) (ltb (getD s i 0) 128) (ascii (drop (suc i) s))))
 
-pub ascii-done : (s : List ℕ) (i h : ℕ) → length s ≤ i → both (ltb h 128) (ascii (drop i s)) ≡ ltb h 128
+pub ascii-done : (s : List ℕ) (i h : ℕ) → length s ≤ i → (ltb h 128 && ascii (drop i s)) ≡ ltb h 128
 unfolding ascii
 ascii-done s i h k = rw (drop-of-length-le s k) (both-true (ltb h 128))
 
@@ -70,12 +68,12 @@ ascii-eight s i h =
     bits-below (getD s i 0) (bitsAt s i 1 6) ∙ rw (bits-at s i 1 6 (omega arith), drop-cons s i 0 (omega arith), add-one i)
 
 -- a text in two parts is ASCII where both are
-ascii-append : (s t : List ℕ) → ascii (s ++ t) ≡ both (ascii s) (ascii t)
+ascii-append : (s t : List ℕ) → ascii (s ++ t) ≡ (ascii s && ascii t)
 unfolding ascii
 ascii-append [] t = refl
 ascii-append (a ∷ s) t = rw (ascii-append s t) (sym (both-assoc (ltb a 128) (ascii s) (ascii t)))
 
-ascii-cut : (s : List ℕ) (i : ℕ) → ascii s ≡ both (ascii (take i s)) (ascii (drop i s))
+ascii-cut : (s : List ℕ) (i : ℕ) → ascii s ≡ (ascii (take i s) && ascii (drop i s))
 ascii-cut s i = ap ascii (sym (take-append-drop i s)) ∙ ascii-append (take i s) (drop i s)
 
 -- where the bytes before a place are ASCII: so are those of a part more, or the text is not; and a last part that begins before it decides

@@ -1,8 +1,7 @@
 -- Laws of characters: where one stands in a text, how wide it is, and what follows it.
--- Assumes nothing.
 use Prim.Native.Nat.{ℕ, zero, suc, _+_, _≤_, _<_}
 use mathlib.Core.Path.{_≡_, refl, sym, ap, _∙_}
-use mathlib.Core.Bool.{Bool, true, false}
+use mathlib.Core.Bool.{Bool, true, false, _&&_, _||_, cond}
 use mathlib.Core.List.{List, [], _∷_}
 use mathlib.Core.Logic.{_⊎_, inl, inr, ⊎-elim}
 use native.Mathlib.Omega.{arith}
@@ -10,7 +9,6 @@ use borrow.Author.Tests.{eqb-false}
 use lib.Dec.{T, leb, ltb, eqb, leb→le, ltb→lt}
 use lib.ListN.{length, getD, drop, length-drop, drop-of-length-le}
 use lib.Seq.{drop-cons, getD-drop, drop-nil, drop-drop}
-use Rattle.answer.specs.Choice.{both, either, pick}
 use Rattle.text.specs.Ranges.{within}
 use Rattle.text.proofs.Ranges.{even, on, evenly, within-ends, both-parts, either-parts, find-all}
 use Rattle.utf8.specs.Rfc3629.{leads, noLead, leadOf, needed, wellFormed, scalarOf, charOf, front}
@@ -51,7 +49,7 @@ unfolding charOf wellFormed scalarOf needed
 ascii-at s at a v h e small ev = rw (front-at s at h, ← e, led 0x00 0x7F a (omega arith) (omega arith) tt, ev)
 
 -- a character that was found: its bytes are well formed, and its width is the row's
-pub found : (t : Bool) (x v c w : ℕ) → pick t (Char x v) Bad ≡ Char c w → T t × (v ≡ w)
+pub found : (t : Bool) (x v c w : ℕ) → cond t (Char x v) Bad ≡ Char c w → T t × (v ≡ w)
 found true x v c w e = (tt, cc)
 found false x v c w e = let z : _≡_ {A = ℕ} 0 1 = cc in absurd (omega arith)
 
@@ -62,7 +60,7 @@ within-text (a ∷ s) (suc i) h = let k = within-text s i h in omega arith
 
 -- a row of more than one byte asks of the second that it is not 0
 sound : Lead → Bool
-sound l = both (leb (l .width) 4) (either (ltb (l .width) 2) (leb 1 (l .low)))
+sound l = leb (l .width) 4 && (ltb (l .width) 2 || leb 1 (l .low))
 
 bounds : (a : ℕ) → T (sound (leadOf a))
 unfolding leadOf sound
@@ -74,7 +72,7 @@ needs-byte s k w lo hi i h t =
     ⊎-elim (λ u. inl (ltb→lt w k u)) (λ u. inr (within-text s i (let e = within-ends lo hi (getD s i 0) u in omega arith)))
     (either-parts (ltb w k) (within lo hi (getD s i 0)) t)
 
-asked : (t u : Bool) → T (pick t false u) → (t ≡ false) × T u
+asked : (t u : Bool) → T (cond t false u) → (t ≡ false) × T u
 asked true u t = absurd t
 asked false u t = (refl, t)
 
@@ -86,10 +84,10 @@ wide s l b t =
     let second = needed 2 w (l .low) (l .high) (getD s 0 0) in
     let third = needed 3 w 0x80 0xBF (getD s 1 0) in
     let fourth = needed 4 w 0x80 0xBF (getD s 2 0) in
-    let p = asked (eqb w 0) (both second (both third fourth)) t in
-    let q = both-parts second (both third fourth) (p .1) in
+    let p = asked (eqb w 0) (second && (third && fourth)) t in
+    let q = both-parts second (third && fourth) (p .1) in
     let r = both-parts third fourth (q .1) in
-    let m = both-parts (leb w 4) (either (ltb w 2) (leb 1 (l .low))) b in
+    let m = both-parts (leb w 4) (ltb w 2 || leb 1 (l .low)) b in
     let some : 1 ≤ w = omega (arith, eqb-false w 0 (p .0)) in
     let four : w ≤ 4 = leb→le w 4 (m .0) in (
       some,

@@ -1,15 +1,13 @@
 -- Laws of the prefix: a character is decided by its own bytes, so that the prefix is well formed, and each well-formed prefix is within it.
--- Assumes nothing.
 use Prim.Native.Nat.{ℕ, zero, suc, _+_, _*_, _%_, _-_, _≤_}
 use mathlib.Core.Path.{_≡_, refl, sym, ap, _∙_}
-use mathlib.Core.Bool.{Bool, true, false}
+use mathlib.Core.Bool.{Bool, true, false, _||_, cond}
 use mathlib.Core.List.{List, [], _∷_}
 use native.Mathlib.Omega.{arith}
 use borrow.Author.Tests.{ltb-false, eqb-true, eqb-false}
 use lib.Dec.{ltb, eqb}
 use lib.ListN.{length, getD, take, drop, length-take, length-drop}
 use lib.Seq.{getD-take, take-nil, take-add, drop-at, length-take-le}
-use Rattle.answer.specs.Choice.{either, pick}
 use Rattle.text.specs.Ranges.{within}
 use Rattle.utf8.specs.Rfc3629.{leadOf, needed, wellFormed, scalarOf, charOf, front}
 use Rattle.utf8.specs.Chars.{widths, validPrefix}
@@ -25,7 +23,7 @@ needed-same : (k w lo hi x y : ℕ) → (k ≤ w → x ≡ y) → needed k w lo 
 unfolding needed
 needed-same k w lo hi x y h = go (ltb w k) refl
   where
-    go : (b : Bool) → ltb w k ≡ b → either b (within lo hi x) ≡ either b (within lo hi y)
+    go : (b : Bool) → ltb w k ≡ b → (b || within lo hi x) ≡ (b || within lo hi y)
     go true e = refl
     go false e = rw (h (ltb-false w k e))
 
@@ -41,8 +39,8 @@ unfolding scalarOf
 scalar-same w a b c d b′ c′ d′ some p q r = go (eqb w 1) (eqb w 2) (eqb w 3) refl refl refl
   where
     go : (x y z : Bool) → eqb w 1 ≡ x → eqb w 2 ≡ y → eqb w 3 ≡ z
-        → pick x a (pick y (a % 32 * 64 + b % 64) (pick z (a % 16 * 4096 + b % 64 * 64 + c % 64) (a % 8 * 262144 + b % 64 * 4096 + c % 64 * 64 + d % 64)))
-        ≡ pick x a (pick y (a % 32 * 64 + b′ % 64) (pick z (a % 16 * 4096 + b′ % 64 * 64 + c′ % 64) (a % 8 * 262144 + b′ % 64 * 4096 + c′ % 64 * 64 + d′ % 64)))
+        → cond x a (cond y (a % 32 * 64 + b % 64) (cond z (a % 16 * 4096 + b % 64 * 64 + c % 64) (a % 8 * 262144 + b % 64 * 4096 + c % 64 * 64 + d % 64)))
+        ≡ cond x a (cond y (a % 32 * 64 + b′ % 64) (cond z (a % 16 * 4096 + b′ % 64 * 64 + c′ % 64) (a % 8 * 262144 + b′ % 64 * 4096 + c′ % 64 * 64 + d′ % 64)))
     go true y z e f g = refl
     go false true z e f g = rw (p (omega (arith, eqb-true w 2 f)))
     go false false true e f g = rw (p (omega (arith, eqb-true w 3 g)), q (omega (arith, eqb-true w 3 g)))

@@ -1,5 +1,4 @@
 -- What is promised of `validPrefix`: it is the length of the longest well-formed prefix, no other number is, and it is the whole text's exactly where the text is well formed.
--- Assumes nothing.
 use Prim.Native.Nat.{ℕ}
 use mathlib.Core.Path.{_≡_, refl}
 use mathlib.Core.List.{List}

@@ -1,5 +1,4 @@
 -- Worked examples: the texts of RFC 3629, section 7, ill-formed ones of the kinds that its sections 3 and 10 name, and code points in and beside White_Space.
--- Assumes nothing.
 use Prim.Native.Nat.{ℕ}
 use mathlib.Core.Path.{_≡_, refl}
 use mathlib.Core.Bool.{Bool, true, false}

@@ -1,10 +1,8 @@
 -- RFC 3629, section 4, UTF8-octets = *( UTF8-char ): the characters of a text, up to the first place where none starts.
--- Assumes nothing.
 use Prim.Native.Nat.{ℕ, zero, suc, pred, _+_}
-use mathlib.Core.Bool.{Bool, true}
+use mathlib.Core.Bool.{Bool, true, _&&_}
 use mathlib.Core.List.{List, [], _∷_}
 use lib.Dec.{ltb}
-use Rattle.answer.specs.Choice.{both}
 use Rattle.utf8.specs.Rfc3629.{front}
 use Rattle.utf8.specs.declared.Decoded.{Decoded}
 use Rattle.utf8.specs.declared.Decoded.the-variants.{Char, Bad}
@@ -43,4 +41,4 @@ validPrefix s = widths (chars s)
 -- the US-ASCII texts of section 3: every byte is below 128
 unfoldable pub ascii : List ℕ → Bool
 ascii [] = true
-ascii (a ∷ s) = both (ltb a 128) (ascii s)
+ascii (a ∷ s) = ltb a 128 && ascii s

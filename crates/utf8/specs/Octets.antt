@@ -1,5 +1,4 @@
 -- RFC 3629, section 4, UTF8-octets = *( UTF8-char ): the well-formed texts, and the longest prefix of a text that is one.
--- Assumes nothing.
 use Prim.Native.Nat.{ℕ, _≤_}
 use mathlib.Core.Path.{_≡_}
 use mathlib.Core.List.{List, []}

@@ -1,5 +1,4 @@
 -- `amount::all_zero` meets its contract. The invariant: what is left of the field gives what the whole field gives. The measure is what is left.
--- Assumes nothing.
 use Prim.Native.Nat.{_-_, _≤_}
 use mathlib.Core.Path.{_≡_, sym, refl, _∙_}
 use mathlib.Core.Logic.{⊎-elim}

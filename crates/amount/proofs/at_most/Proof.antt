@@ -1,5 +1,4 @@
 -- `amount::at_most` meets its contract: the test is the definition's.
--- Assumes nothing.
 use borrow.Author.Tests.{le-leb, lt-leb}
 use Rattle.amount.specs.Amount.{atMost}
 use Rattle.amount.proofs.at_most.Statement.{statement}

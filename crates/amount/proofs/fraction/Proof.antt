@@ -1,5 +1,4 @@
 -- `amount::fraction` meets its contract: where there is a `.` the part after it decides.
--- Assumes nothing.
 use borrow.Author.Tests.{lt-ltb, le-ltb}
 use borrow.Author.Needs.{needs}
 use Rattle.amount.specs.Amount.{fraction}

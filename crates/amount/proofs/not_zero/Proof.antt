@@ -1,5 +1,4 @@
 -- `amount::not_zero` meets its contract: the test is the definition's.
--- Assumes nothing.
 use borrow.Author.Needs.{needs}
 use Rattle.amount.specs.Amount.{notZero}
 use Rattle.amount.proofs.not_zero.Statement.{statement}

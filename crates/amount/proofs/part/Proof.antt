@@ -1,5 +1,4 @@
 -- `amount::part` meets its contract: the steps are the definition's, and `apart` counts the digits.
--- Assumes nothing.
 use borrow.Author.Needs.{needs}
 use Rattle.answer.proofs.Laws.{then-is}
 use Rattle.amount.specs.Amount.{part}

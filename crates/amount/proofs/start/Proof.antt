@@ -1,5 +1,4 @@
 -- `amount::start` meets its contract: the test is the definition's, on the byte that `at` reads.
--- Assumes nothing.
 use borrow.Author.Tests.{eq-eqb, ne-eqb}
 use borrow.Author.Needs.{needs}
 use Rattle.amount.specs.Amount.{start}

@@ -1,5 +1,4 @@
 -- `amount::validate_amount` meets its contract: its steps are the definition's, at the places that `start` and `first_place` give.
--- Assumes nothing.
 use borrow.Author.Needs.{needs}
 use Rattle.answer.proofs.Laws.{accept-is, then-is}
 use Rattle.amount.specs.Amount.{validateAmount}

@@ -1,5 +1,4 @@
 -- `batch::answer_bytes` meets its contract: the four numbers are the answer's, and the array is their bytes in the definition's order.
--- Assumes nothing.
 use Rattle.batch.specs.Verdict.{answerBytes}
 use borrow.Author.Needs.{needs}
 use Rattle.batch.proofs.answer_bytes.Statement.{statement}

@@ -1,5 +1,4 @@
 -- `batch::judge_next` meets its contract: the head is read, and the value judged, where the record stands in the batch, and the verdict is written into the part of the output from `w` on.
--- Assumes nothing.
 use Prim.Native.Nat.{_-_}
 use mathlib.Core.Path.{_≡_, _∙_, sym}
 use native.Mathlib.Omega.{arith}

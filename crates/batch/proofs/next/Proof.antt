@@ -1,5 +1,4 @@
 -- `batch::next` meets its contract: each case of the head is the definition's line for it.
--- Assumes nothing.
 use borrow.Author.Tests.{le-ltb, lt-ltb, eq-eqb, ne-eqb}
 use Rattle.batch.specs.Walk.{nextOf}
 use borrow.Author.Needs.{needs}

@@ -1,5 +1,4 @@
 -- `batch::pair_at` meets its contract: two bytes read one by one are the number that they write; each is below 256, so the sum fits.
--- Assumes nothing.
 use Prim.Native.Nat.{_+_}
 use mathlib.Core.Path.{sym}
 use native.Mathlib.Omega.{arith}

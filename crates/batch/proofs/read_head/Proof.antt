@@ -1,5 +1,4 @@
 -- `batch::read_head` meets its contract: the tests are the definition's, in its order, on the same bytes.
--- Assumes nothing.
 use borrow.Author.Tests.{le-ltb, lt-ltb, eq-eqb, ne-eqb}
 use Rattle.batch.specs.Head.{headOf}
 use borrow.Author.Needs.{needs}

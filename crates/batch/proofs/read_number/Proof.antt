@@ -1,5 +1,4 @@
 -- `batch::read_number` meets its contract. The invariant: the number so far is that of the first eight bytes from the i-th on.
--- Assumes nothing.
 use Prim.Native.Nat.{_-_, _^_, _≤_, _<_}
 use mathlib.Core.Path.{_≡_}
 use mathlib.Core.Logic.{⊎-elim}

@@ -1,5 +1,4 @@
 -- `batch::run` meets its contract: the whole walk is what is done so far and then the walk on what is left, and each turn moves one record from the second to the first. The measure is the budget left.
--- Assumes nothing.
 use Prim.Native.Nat.{_+_, _-_, _^_, _≤_}
 use mathlib.Core.Path.{sym}
 use native.Mathlib.Omega.{arith}

@@ -1,5 +1,4 @@
 -- `batch::unless_spent` meets its contract: the test is the definition's.
--- Assumes nothing.
 use borrow.Author.Tests.{eq-eqb, ne-eqb}
 use Rattle.batch.proofs.unless_spent.Statement.{statement}
 use Rattle.batch.proofs.unless_spent.Tie as tie

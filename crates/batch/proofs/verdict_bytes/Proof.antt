@@ -1,5 +1,4 @@
 -- `batch::verdict_bytes` meets its contract: the array is the verdict's parts, in the definition's order.
--- Assumes nothing.
 use Rattle.batch.specs.Verdict.{answerBytes, verdict}
 use borrow.Author.Needs.{needs}
 use Rattle.batch.proofs.verdict_bytes.Statement.{statement}

@@ -1,5 +1,4 @@
 -- `batch::write_number` meets its contract. The invariant: the bytes so far, and then those of what is left of the number.
--- Assumes nothing.
 use Prim.Native.Nat.{_-_, _%_, _≤_}
 use mathlib.Core.Path.{_≡_, refl, sym, _∙_}
 use mathlib.Core.List.{_++_, append-nil}

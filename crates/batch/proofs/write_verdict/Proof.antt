@@ -1,5 +1,4 @@
 -- `batch::write_verdict` meets its contract: the array is the verdict, and is copied to the start of the output.
--- Assumes nothing.
 use Rattle.batch.specs.Verdict.{answerBytes, verdict}
 use borrow.Author.Needs.{needs}
 use Rattle.batch.proofs.write_verdict.Statement.{statement}

@@ -1,5 +1,4 @@
 -- `bic::bic_length` meets its contract: the two tests are the definition's.
--- Assumes nothing.
 use borrow.Author.Tests.{eq-eqb, ne-eqb}
 use Rattle.bic.specs.Bic.{bicLength}
 use Rattle.bic.proofs.bic_length.Statement.{statement}

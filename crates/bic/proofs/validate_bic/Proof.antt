@@ -1,5 +1,4 @@
 -- `bic::validate_bic` meets its contract: a length that stops is the chain's word, and where it passes the other steps are the chain.
--- Assumes nothing.
 use Rattle.answer.specs.Steps.{_andThen_, _orAccept_}
 use Rattle.answer.proofs.Laws.{accept-is, then-is}
 use Rattle.bic.specs.Bic.{bicAnswer}

@@ -1,5 +1,4 @@
 -- `checkdigit::iban_remainder` meets its contract: the remainder of the rest goes on over the first four characters.
--- Assumes nothing.
 use mathlib.Core.Path.{_∙_}
 use borrow.Author.Needs.{needs}
 use Rattle.checkdigit.proofs.Iban.{short-sum, moved-sum}

@@ -1,5 +1,4 @@
 -- `checkdigit::letter_value` meets its contract: a byte below 55 leaves nothing, any other its code less 55.
--- Assumes nothing.
 use native.Mathlib.Omega.{arith}
 use borrow.Author.Needs.{needs}
 use Rattle.checkdigit.specs.Letter.{letterValue}

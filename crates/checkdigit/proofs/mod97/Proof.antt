@@ -1,5 +1,4 @@
 -- `checkdigit::mod97` meets its contract: a number that is reduced first leaves the same remainder.
--- Assumes nothing.
 use mathlib.Core.Path.{_∙_}
 use native.Mathlib.Omega.{arith}
 use Rattle.checkdigit.proofs.Digits.{reduced}

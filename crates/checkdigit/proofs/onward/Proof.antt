@@ -1,5 +1,4 @@
 -- `checkdigit::onward` meets its contract: the remainder so far is that of r's digits with those of the characters passed after them.
--- Assumes nothing.
 use mathlib.Core.Path.{_≡_, _∙_, ap}
 use Prim.Native.Nat.{_≤_, _<_, _-_}
 use native.Mathlib.Omega.{arith}

@@ -1,5 +1,4 @@
 -- `checkdigit::remainder` meets its contract: with nothing before them the text's digits write the text's number.
--- Assumes nothing.
 use mathlib.Core.Path.{_∙_}
 use borrow.Author.Needs.{needs}
 use Rattle.checkdigit.proofs.Digits.{from-nothing}

@@ -1,5 +1,4 @@
 -- `checkdigit::remainder_is_one` meets its contract: the test is the definition's.
--- Assumes nothing.
 use borrow.Author.Tests.{eq-eqb, ne-eqb}
 use Rattle.checkdigit.specs.Verdict.{remainderStep}
 use Rattle.checkdigit.proofs.remainder_is_one.Statement.{statement}

@@ -1,5 +1,4 @@
 -- `checkdigit::rest` meets its contract: for so small a number the product's quotient is the number's own.
--- Assumes nothing.
 use Prim.Native.Nat.{ℕ, _*_, _/_, _<_}
 use mathlib.Core.Path.{_≡_}
 use native.Mathlib.Omega.{arith}

@@ -1,5 +1,4 @@
 -- `checkdigit::scale` meets its contract: the arm that the byte falls in says whether one digit or two are written.
--- Assumes nothing.
 use native.Mathlib.Omega.{arith}
 use Rattle.text.proofs.Classes.{is-digit, below-digits, above-digits}
 use Rattle.checkdigit.proofs.Digits.{room-digit, room-other}

@@ -1,5 +1,4 @@
 -- `checkdigit::step` meets its contract: the number is moved to make room for the character's digits, and the character's value is added.
--- Assumes nothing.
 use native.Mathlib.Omega.{arith}
 use borrow.Author.Needs.{needs}
 use Rattle.checkdigit.proofs.Digits.{after-one}

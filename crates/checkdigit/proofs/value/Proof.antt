@@ -1,5 +1,4 @@
 -- `checkdigit::value` meets its contract: the arm that the byte falls in is the definition's.
--- Assumes nothing.
 use mathlib.Core.Path.{_≡_}
 use mathlib.Core.Bool.{false}
 use mathlib.Core.Logic.{⊎-elim}
@@ -7,7 +6,7 @@ use native.Mathlib.Omega.{arith}
 use borrow.Author.Needs.{needs}
 use Rattle.text.specs.Class.{isDigit}
 use Rattle.text.proofs.Classes.{is-digit, below-digits, above-digits}
-use Rattle.checkdigit.specs.Sum.{valueOf}
+use Rattle.checkdigit.specs.Sum.{characterValue}
 use Rattle.checkdigit.proofs.value.Statement.{statement}
 use Rattle.checkdigit.proofs.value.Tie as tie
 
@@ -18,11 +17,11 @@ letter-value-requires : tie.Need-letter-value-requires
 letter-value-requires c κs = search needs
 
 returns : tie.Need-returns
-unfolding valueOf
+unfolding characterValue
 returns c = let a = c .before .before .before .args in rw (is-digit (a .b) (omega arith) (omega arith)) (c .wide .ensures)
 
 returns-2 : tie.Need-returns-2
-unfolding valueOf
+unfolding characterValue
 returns-2 c =
     let a = c .before .before .args in
     let other : isDigit (a .b) ≡ false =

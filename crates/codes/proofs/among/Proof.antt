@@ -1,6 +1,5 @@
 -- `codes::among` meets its contract. The invariant: the code stands in the table just where it stands from i on.
 -- The measure is what is left of the table.
--- Assumes nothing.
 use Prim.Native.Nat.{_≤_, _-_}
 use mathlib.Core.Path.{_≡_, refl, sym, _∙_}
 use native.Mathlib.Omega.{arith}

@@ -1,5 +1,4 @@
 -- `codes::by_list` meets its contract: the test is the definition's.
--- Assumes nothing.
 use Rattle.answer.specs.Steps.{_orAccept_}
 use borrow.Author.Needs.{needs}
 use Rattle.codes.proofs.by_list.Statement.{statement}

@@ -1,5 +1,4 @@
 -- `codes::well_spelt` meets its contract: what each call ensures, joined in the definition's order.
--- Assumes nothing.
 use Rattle.answer.proofs.Laws.{then-is}
 use Rattle.codes.specs.Codes.{wellSpelt}
 use borrow.Author.Needs.{needs}

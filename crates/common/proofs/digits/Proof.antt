@@ -1,6 +1,5 @@
 -- `common::digits` meets its contract. The invariant: n is the number of the digits passed, and the search from i on gives what the whole search gives.
 -- Where one digit more does not fit in 64 bits, the whole number does not, and the search from i on decides. The measure is what is left.
--- Assumes nothing.
 use Prim.Native.Nat.{_+_, _-_, _*_, _^_, _≤_, _<_}
 use mathlib.Core.Bool.{true}
 use mathlib.Core.Path.{_≡_, refl, sym, _∙_}
@@ -13,13 +12,13 @@ use Rattle.text.proofs.Classes.{digit-ends}
 use Rattle.text.proofs.Fields.{wrong-here, wrong-none}
 use Rattle.text.specs.Field.{firstWrong, wrongFrom}
 use Rattle.text.specs.declared.Set.the-variants.{Digits}
-use Rattle.common.specs.Cents.{numberAt}
+use Rattle.common.specs.Cents.{numberBetween}
 use Rattle.common.proofs.Reading.{digits-wrong, digits-fit, digits-past, number-empty, number-part, number-next, wrong-next}
 use Rattle.common.proofs.digits.Statement.{statement}
 use Rattle.common.proofs.digits.Tie as tie
 
 abbrev Inv-loop : tie.InvT-loop
-Inv-loop s at to check n₀ i₀ n i = (at ≤ i) × (i ≤ to) × (n < 2 ^ 64) × (n ≡ numberAt s at i) × (firstWrong Digits s at to check ≡ wrongFrom Digits s i (to - i) check)
+Inv-loop s at to check n₀ i₀ n i = (at ≤ i) × (i ≤ to) × (n < 2 ^ 64) × (n ≡ numberBetween s at i) × (firstWrong Digits s at to check ≡ wrongFrom Digits s i (to - i) check)
 
 abbrev μ-loop : tie.MeasureT-loop
 μ-loop s at to check n₀ i₀ n i = to - i

@@ -1,5 +1,4 @@
 -- `common::digits_at` meets its contract: the two tests are the definition's.
--- Assumes nothing.
 use mathlib.Core.Logic.{⊎-elim}
 use borrow.Author.Tests.{lt-ltb, le-ltb}
 use borrow.Author.Needs.{needs}

@@ -1,5 +1,4 @@
 -- `common::fraction` meets its contract: by the count of bytes its steps are the definition's, and one digit's tenfold fits.
--- Assumes nothing.
 use Prim.Native.Nat.{_-_, _+_}
 use mathlib.Core.Path.{_∙_, sym}
 use mathlib.Core.Logic.{⊎-elim}

@@ -1,5 +1,4 @@
 -- `common::parse_amount_cents` meets its contract: where there is a `.` the shared steps decide.
--- Assumes nothing.
 use borrow.Author.Tests.{lt-ltb, le-ltb}
 use borrow.Author.Needs.{needs}
 use Rattle.answer.specs.Steps.{_andThen_, _orAccept_}

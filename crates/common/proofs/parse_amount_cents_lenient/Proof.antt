@@ -1,5 +1,4 @@
 -- `common::parse_amount_cents_lenient` meets its contract: its steps are the shared ones.
--- Assumes nothing.
 use borrow.Author.Needs.{needs}
 use Rattle.common.specs.Cents.{parseAmountCentsLenient}
 use Rattle.common.proofs.parse_amount_cents_lenient.Statement.{statement}

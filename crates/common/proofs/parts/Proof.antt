@@ -1,5 +1,4 @@
 -- `common::parts` meets its contract: the steps are the definition's, and the numbers that they leave are those of the cents.
--- Assumes nothing.
 use mathlib.Core.Path.{_∙_, sym}
 use native.Mathlib.Omega.{arith}
 use borrow.Author.Needs.{needs}

@@ -1,5 +1,4 @@
 -- `common::past` meets its contract: the test is the definition's.
--- Assumes nothing.
 use native.Mathlib.Omega.{arith}
 use borrow.Author.Tests.{lt-ltb, le-ltb}
 use borrow.Author.Needs.{needs}

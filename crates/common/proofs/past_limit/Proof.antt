@@ -1,5 +1,4 @@
 -- `common::past_limit` meets its contract: the rest's refusal, or that the number is too large.
--- Assumes nothing.
 use borrow.Author.Needs.{needs}
 use Rattle.answer.specs.Steps.{_andThen_}
 use Rattle.common.specs.Cents.{parsed}

@@ -1,5 +1,4 @@
 -- `common::total` meets its contract: the test is that the sum is at most 2^64 - 1.
--- Assumes nothing.
 use Prim.Native.Nat.{_+_, _*_, _^_}
 use native.Mathlib.Omega.{arith}
 use borrow.Author.Tests.{lt-ltb, le-ltb}

@@ -1,5 +1,4 @@
 -- `common::whole` meets its contract: after the place of the first digit its steps are the definition's.
--- Assumes nothing.
 use borrow.Author.Tests.{lt-ltb, le-ltb}
 use borrow.Author.Needs.{needs}
 use Rattle.answer.specs.Steps.{_andThen_}

@@ -1,5 +1,4 @@
 -- `country::listed` meets its contract: the table is the list's codes packed, which is computed over the whole table at once.
--- Assumes nothing.
 use Rattle.country.specs.Country.{countries}
 use borrow.Author.Needs.{needs}
 use Rattle.country.proofs.listed.Statement.{statement}

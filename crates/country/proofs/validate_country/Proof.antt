@@ -1,5 +1,4 @@
 -- `country::validate_country` meets its contract: a field that is not well spelt has its step's answer, any other that of its bytes' number.
--- Assumes nothing.
 use mathlib.Core.Path.{sym, _∙_}
 use native.Mathlib.Omega.{arith}
 use Rattle.codes.proofs.Laws.{misspelt, by-number}

@@ -1,5 +1,4 @@
 -- `currency::listed` meets its contract: the table is the list's codes packed, which is computed over the whole table at once.
--- Assumes nothing.
 use Rattle.currency.specs.Currency.{currencies}
 use borrow.Author.Needs.{needs}
 use Rattle.currency.proofs.listed.Statement.{statement}

@@ -1,5 +1,4 @@
 -- `datetime::date_part` meets its contract: the chain of the code is the definition's.
--- Assumes nothing.
 use Rattle.datetime.specs.Date.{datePart}
 use Rattle.answer.proofs.Laws.{then-is}
 use borrow.Author.Needs.{needs}

@@ -1,5 +1,4 @@
 -- `datetime::digits_end` meets its contract. The invariant: the end is the place reached and the digits from there on. The measure is what is left.
--- Assumes nothing.
 use Prim.Native.Nat.{_+_, _-_}
 use mathlib.Core.Path.{_≡_}
 use native.Mathlib.Omega.{arith}

@@ -1,5 +1,4 @@
 -- `datetime::ends_at` meets its contract: the test is the definition's.
--- Assumes nothing.
 use borrow.Author.Tests.{le-leb, lt-leb}
 use Rattle.datetime.specs.Datetime.{endsAt}
 use Rattle.datetime.proofs.ends_at.Statement.{statement}

@@ -1,5 +1,4 @@
 -- `datetime::fraction_part` meets its contract: the tests are the definition's, on the bytes that `at` reads.
--- Assumes nothing.
 use borrow.Author.Tests.{eq-eqb, ne-eqb}
 use Rattle.datetime.specs.Datetime.{fractionPart}
 use borrow.Author.Needs.{needs}

@@ -1,5 +1,4 @@
 -- `datetime::length_from` meets its contract: the test is the definition's.
--- Assumes nothing.
 use borrow.Author.Tests.{le-leb, lt-leb}
 use Rattle.datetime.specs.Datetime.{lengthFrom}
 use Rattle.datetime.proofs.length_from.Statement.{statement}

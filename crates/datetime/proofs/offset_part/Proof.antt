@@ -1,5 +1,4 @@
 -- `datetime::offset_part` meets its contract: where five bytes stand there, the chain of the code is the rest of the definition's.
--- Assumes nothing.
 use Prim.Native.Nat.{_+_}
 use mathlib.Core.Path.{_≡_}
 use mathlib.Core.Bool.{true}

@@ -1,5 +1,4 @@
 -- `datetime::sign` meets its contract: the first test decides which of the two answers stands.
--- Assumes nothing.
 use borrow.Author.Tests.{eq-eqb, ne-eqb}
 use Rattle.datetime.proofs.sign.Statement.{statement}
 use Rattle.datetime.proofs.sign.Tie as tie

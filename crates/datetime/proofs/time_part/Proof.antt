@@ -1,5 +1,4 @@
 -- `datetime::time_part` meets its contract: the chain of the code is the definition's, with the zone's place as computed.
--- Assumes nothing.
 use Rattle.answer.proofs.Laws.{then-is}
 use Rattle.datetime.specs.Datetime.{timePart}
 use borrow.Author.Needs.{needs}

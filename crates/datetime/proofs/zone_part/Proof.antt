@@ -1,5 +1,4 @@
 -- `datetime::zone_part` meets its contract: each test that led to a return decides a test of the definition.
--- Assumes nothing.
 use borrow.Author.Tests.{lt-ltb, le-ltb, ne-eqb}
 use Rattle.answer.specs.Steps.{_andThen_}
 use Rattle.datetime.specs.Datetime.{zonePart}

@@ -1,5 +1,4 @@
 -- `datetime::zone_place` meets its contract: the test is the definition's, on the byte that `at` reads.
--- Assumes nothing.
 use borrow.Author.Tests.{eq-eqb, ne-eqb}
 use Rattle.datetime.specs.Datetime.{zonePlace}
 use borrow.Author.Needs.{needs}

@@ -1,5 +1,4 @@
 -- `field::admit` meets its contract: the tests are the definition's, in its order.
--- Assumes nothing.
 use borrow.Author.Tests.{le-leb, lt-leb, eq-eqb, ne-eqb}
 use borrow.Author.Needs.{needs}
 use Rattle.answer.specs.Steps.{_andThen_}

@@ -1,5 +1,4 @@
 -- `field::check_field` meets its contract: a rule's acceptance is the answer, and its refusal that of an admitted field.
--- Assumes nothing.
 use mathlib.Core.Path.{refl, sym, _∙_}
 use borrow.Author.Needs.{needs}
 use Rattle.answer.proofs.Laws.{then-is, accept-is}

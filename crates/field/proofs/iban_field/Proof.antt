@@ -1,5 +1,4 @@
 -- `field::iban_field` meets its contract: the admission's word, and the rule's where it passes.
--- Assumes nothing.
 use borrow.Author.Needs.{needs}
 use Rattle.field.specs.Field.{ruleOf, checkField}
 use Rattle.field.proofs.iban_field.Statement.{statement}

@@ -1,5 +1,4 @@
 -- `field::rule` meets its contract: each arm is a line of the table of kinds below the IBAN's, and the last one no line of it.
--- Assumes nothing.
 use borrow.Author.Tests.{ne-eqb}
 use borrow.Author.Needs.{needs}
 use Rattle.answer.proofs.Laws.{accept-is}

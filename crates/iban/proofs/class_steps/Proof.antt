@@ -1,5 +1,4 @@
 -- `iban::class_steps` meets its contract: the chain is the definition's, step by step.
--- Assumes nothing.
 use borrow.Author.Needs.{needs}
 use Rattle.answer.proofs.Laws.{then-is}
 use Rattle.iban.specs.Held.{heldSteps}

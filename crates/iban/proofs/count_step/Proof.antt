@@ -1,5 +1,4 @@
 -- `iban::count_step` meets its contract: the two tests are the ends of the definition's range.
--- Assumes nothing.
 use borrow.Author.Tests.{le-leb, lt-leb}
 use Rattle.iban.specs.Iban.{countStep}
 use Rattle.iban.proofs.count_step.Statement.{statement}

@@ -1,9 +1,9 @@
 -- `iban::hold` meets its contract: the first pass, the count, and the class steps on the held text, whose place is put back into the field.
--- Assumes nothing.
-use mathlib.Core.Path.{sym, _∙_}
+use mathlib.Core.Path.{sym, ap, _∙_}
 use native.Mathlib.Omega.{arith}
 use denote.Ref.{now}
 use borrow.Author.Needs.{needs}
+use Rattle.answer.specs.declared.Numbers.{Numbers}
 use Rattle.iban.proofs.Verdict.{Whole, whole, stopped, held-whole, held-wrong}
 use Rattle.iban.proofs.hold.Statement.{statement}
 use Rattle.iban.proofs.hold.Tie as tie
@@ -42,8 +42,8 @@ enum-told-2 c = search needs
 enum-known-reason : tie.Need-enum-known-reason
 enum-known-reason c = search needs
 
-place-requires : tie.Need-place-requires
-place-requires c κs = search needs
+numbers-requires : tie.Need-numbers-requires
+numbers-requires c κs = search needs
 
 place-of-requires : tie.Need-place-of-requires
 place-of-requires c κs = search needs
@@ -69,7 +69,7 @@ returns-2 c =
     let d = n .before .before .before in
     let e = d .before .before .before in
     c .refused .ensures
-    ∙ rw (c .before .place-of .ensures, c .before .before .place .ensures)
+    ∙ rw (c .before .place-of .ensures, ap (λ (x : Numbers). x .place) (c .before .before .numbers .ensures))
     (held-wrong _ _ (e .before .before .before .before .before .kept .ensures) (passed e) _ (d .class-steps .ensures) _ _ (n .before .reason .given .1))
 
 returns-3 : tie.Need-returns-3
@@ -93,7 +93,7 @@ hold-spec =
     class-steps-requires
     enum-told-2
     enum-known-reason
-    place-requires
+    numbers-requires
     place-of-requires
     refused-requires
     enum-known-reason-2

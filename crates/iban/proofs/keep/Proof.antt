@@ -1,5 +1,4 @@
 -- `iban::keep` meets its contract. The invariant: what is held so far, and what is left of the field from there on, are what is left of it.
--- Assumes nothing.
 use mathlib.Core.Path.{sym, _∙_, ap}
 use Prim.Native.Nat.{_-_}
 use native.Mathlib.Omega.{arith}

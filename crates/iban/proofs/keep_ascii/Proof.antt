@@ -1,5 +1,4 @@
 -- `iban::keep_ascii` meets its contract: as `keep`, with each byte a character of its own.
--- Assumes nothing.
 use Prim.Native.Nat.{_-_, _%_, _<_}
 use mathlib.Core.Path.{_≡_, sym, _∙_, ap}
 use native.Mathlib.Omega.{arith}

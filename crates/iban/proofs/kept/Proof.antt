@@ -1,5 +1,4 @@
 -- `iban::kept` meets its contract: the field is ASCII where `keep_ascii` is called.
--- Assumes nothing.
 use mathlib.Core.Path.{sym, _∙_}
 use borrow.Author.Needs.{needs}
 use Rattle.iban.proofs.kept.Statement.{statement}

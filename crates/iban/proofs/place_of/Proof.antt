@@ -1,5 +1,4 @@
 -- `iban::place_of` meets its contract. The invariant: the place sought is that of the character so many further on, from here.
--- Assumes nothing.
 use Prim.Native.Nat.{_-_, _≤_}
 use mathlib.Core.Path.{_≡_, sym, _∙_, ap}
 use native.Mathlib.Omega.{arith}

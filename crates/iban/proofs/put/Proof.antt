@@ -1,5 +1,4 @@
 -- `iban::put` meets its contract: a store past the end changes nothing.
--- Assumes nothing.
 use mathlib.Core.Path.{sym}
 use denote.Ref.{now}
 use lib.Seq.{set-out}

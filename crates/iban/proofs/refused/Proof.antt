@@ -1,5 +1,4 @@
 -- `iban::refused` meets its contract: no text where a step stopped.
--- Assumes nothing.
 use borrow.Author.Needs.{needs}
 use Rattle.iban.specs.Held.{heldBy}
 use Rattle.iban.proofs.refused.Statement.{statement}

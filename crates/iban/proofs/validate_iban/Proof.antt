@@ -1,5 +1,4 @@
 -- `iban::validate_iban` meets its contract: the character steps' word, and the sum's over the held text where they pass.
--- Assumes nothing.
 use Prim.Native.Nat.{ℕ}
 use mathlib.Core.Path.{sym, _∙_, ap}
 use native.Mathlib.Omega.{arith}

@@ -1,5 +1,4 @@
 -- `iban::zeros` meets its contract: 34 zeros pad the empty text.
--- Assumes nothing.
 use mathlib.Core.Path.{refl}
 use Rattle.iban.specs.Held.{padded}
 use Rattle.iban.proofs.zeros.Statement.{statement}

@@ -1,5 +1,4 @@
 -- `front` meets its contract: what is passed is the bytes from `at` on, and the rest is as it was. The measure is the bytes left.
--- Assumes nothing.
 use borrow.Author.Needs.{needs}
 use Prim.Native.Nat.{_-_}
 use Rattle.judge.proofs.Laws.{Moving, move-start, move-on, move-done}

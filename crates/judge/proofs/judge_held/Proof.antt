@@ -1,5 +1,4 @@
 -- `judge_held` meets its contract: the sums fit since the call reads no more than is held, up to an offset below 2^64.
--- Assumes nothing.
 use native.Mathlib.Omega.{arith}
 use borrow.Author.Needs.{needs}
 use denote.Ref.{now}

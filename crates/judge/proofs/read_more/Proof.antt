@@ -1,5 +1,4 @@
 -- `read_more` meets its contract: what is held stands at the front, and the bytes that come in stand after it.
--- Assumes nothing.
 use native.Mathlib.Omega.{arith}
 use borrow.Author.Needs.{needs}
 use Rattle.judge.proofs.Laws.{led-failed, led-ended, led-on, moved-more, not-moved}

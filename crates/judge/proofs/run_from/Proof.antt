@@ -1,5 +1,4 @@
 -- `run_from` is safe: the last line lies inside its buffer, and what was read is the offset less the first one.
--- Assumes nothing.
 use mathlib.Core.Path.{sym}
 use lib.Seq.{length-take-le}
 use Rattle.report.proofs.Texts.{last-inside}

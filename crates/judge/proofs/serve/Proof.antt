@@ -1,5 +1,4 @@
 -- `serve` meets its contract: each turn leads on from the state before, and judges or reads in at least a byte more, which both stay below 2^64 and the buffer's length. That is the measure.
--- Assumes nothing.
 use Prim.Native.Nat.{suc, _+_, _-_, _^_, _<_}
 use mathlib.Core.Path.{_≡_, refl}
 use native.Mathlib.Omega.{arith}

@@ -1,5 +1,4 @@
 -- `shift` meets its contract: the bytes moved to the front are those that were held.
--- Assumes nothing.
 use Rattle.judge.proofs.Laws.{shifted}
 use borrow.Author.Needs.{needs}
 use Rattle.judge.proofs.shift.Statement.{statement}

@@ -1,5 +1,4 @@
 -- `step` meets its contract: the call is one event more, and where it neither pauses nor ends there is room to read on.
--- Assumes nothing.
 use mathlib.Core.Path.{sym, _∙_}
 use native.Mathlib.Omega.{arith}
 use lib.ListN.{length-take}

@@ -1,5 +1,4 @@
 -- `lei::validate_lei` meets its contract: the characters' word, and the sum's where they pass.
--- Assumes nothing.
 use mathlib.Core.Path.{_∙_, ap}
 use Prim.Native.Nat.{ℕ}
 use borrow.Author.Needs.{needs}

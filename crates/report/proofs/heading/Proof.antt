@@ -1,5 +1,4 @@
 -- `report::heading` meets its contract: it is the quoted text.
--- Assumes nothing.
 use mathlib.Core.Path.{refl}
 use Rattle.report.specs.Text.{heading}
 use Rattle.report.proofs.heading.Statement.{statement}

@@ -1,5 +1,4 @@
 -- `report::last_line` meets its contract: its three parts are written one after the other where the longest last line has room.
--- Assumes nothing.
 use Rattle.report.proofs.Puts.{no-last, last-line}
 use borrow.Author.Needs.{needs}
 use Rattle.report.proofs.last_line.Statement.{statement}

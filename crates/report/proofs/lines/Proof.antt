@@ -1,5 +1,4 @@
 -- `report::lines` meets its contract. The invariant: the first k lines are written, and as many more will be as have room after them.
--- Assumes nothing.
 use Prim.Native.Nat.{_-_}
 use lib.ListN.{length}
 use borrow.Author.Needs.{needs}

@@ -1,5 +1,4 @@
 -- `report::parse` meets its contract: digits that passed the search write the number that `number_of` reads, and other bytes give none.
--- Assumes nothing.
 use mathlib.Core.Path.{sym, ap, _∙_}
 use Rattle.report.specs.Offset.{within64}
 use Rattle.report.proofs.Arguments.{given, refused, none}

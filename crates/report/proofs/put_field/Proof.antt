@@ -1,5 +1,4 @@
 -- `report::put_field` meets its contract: one digit is stored, several are spelt into a part of their length, and the byte follows.
--- Assumes nothing.
 use native.Mathlib.Omega.{arith}
 use lib.ListN.{length-set}
 use Rattle.report.proofs.Digits.{one}

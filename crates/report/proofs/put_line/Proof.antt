@@ -1,10 +1,9 @@
 -- `report::put_line` meets its contract: its row has the numbers that stand at the verdict's places.
--- Assumes nothing.
 use mathlib.Core.Path.{_≡_, _∙_}
 use mathlib.Core.List.{[], _∷_}
 use native.Mathlib.Omega.{arith}
 use Rattle.batch.proofs.Numbers.{part-read}
-use Rattle.report.specs.Text.{row, line}
+use Rattle.report.specs.Text.{numbersLine, verdictLine}
 use borrow.Author.Needs.{needs}
 use Rattle.report.proofs.put_line.Statement.{statement}
 use Rattle.report.proofs.put_line.Tie as tie
@@ -15,9 +14,9 @@ line-read : (n : tie.After-read-number5)
     let a = p .before .before in
     let k = a .before .before in
     let o = k .before .before in
-    row (o .read-number .result ∷ k .read-number2 .result ∷ a .read-number3 .result ∷ p .read-number4 .result ∷ n .read-number5 .result ∷ [])
-    ≡ line (o .before .before .before .before .args .v .now)
-unfolding line
+    numbersLine (o .read-number .result ∷ k .read-number2 .result ∷ a .read-number3 .result ∷ p .read-number4 .result ∷ n .read-number5 .result ∷ [])
+    ≡ verdictLine (o .before .before .before .before .args .v .now)
+unfolding verdictLine
 line-read n =
     let p = n .before .before in
     let a = p .before .before in

@@ -1,5 +1,4 @@
 -- `report::put_named` meets its contract: the word is copied, and its number follows.
--- Assumes nothing.
 use Rattle.report.proofs.Puts.{put-word, named-room, named-put}
 use borrow.Author.Needs.{needs}
 use Rattle.report.proofs.put_named.Statement.{statement}

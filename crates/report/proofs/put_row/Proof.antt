@@ -1,7 +1,6 @@
 -- `report::put_row` meets its contract: its fields are written one after the other, and what is left of the row has room each time.
--- Assumes nothing.
 use mathlib.Core.List.{[], _∷_}
-use Rattle.report.specs.Text.{row}
+use Rattle.report.specs.Text.{numbersLine}
 use Rattle.report.proofs.Puts.{Room, row-first, row-rest, row-last, row-then}
 use borrow.Author.Needs.{needs}
 use Rattle.report.proofs.put_row.Statement.{statement}
@@ -49,7 +48,7 @@ same-length : tie.Need-same-length
 same-length c = search needs
 
 returns : tie.Need-returns
-unfolding row
+unfolding numbersLine
 returns c =
     let t = c .before .before in
     let s = t .before .before .before .before in

@@ -1,5 +1,4 @@
 -- `report::spell` meets its contract. The invariant: the number's digits are those of what is left and then those written.
--- Assumes nothing.
 use mathlib.Core.Path.{sym, _∙_}
 use lib.ListN.{length-set}
 use native.Mathlib.Omega.{arith}

@@ -1,16 +1,15 @@
 -- `report::width` meets its contract. The invariant: the digits counted and those of what is left are one more than those of the number.
--- Assumes nothing.
 use Prim.Native.Nat.{_+_}
 use mathlib.Core.Path.{_≡_}
 use lib.ListN.{length}
 use native.Mathlib.Omega.{arith}
-use Rattle.report.specs.Digits.{digitsOf}
+use Rattle.report.specs.Digits.{decimalDigits}
 use Rattle.report.proofs.Digits.{one, one-more, most}
 use Rattle.report.proofs.width.Statement.{statement}
 use Rattle.report.proofs.width.Tie as tie
 
 abbrev Inv-loop : tie.InvT-loop
-Inv-loop x n₀ rest₀ n rest = n + length (digitsOf rest) ≡ length (digitsOf x) + 1
+Inv-loop x n₀ rest₀ n rest = n + length (decimalDigits rest) ≡ length (decimalDigits x) + 1
 
 abbrev μ-loop : tie.MeasureT-loop
 μ-loop x n₀ rest₀ n rest = rest

@@ -1,5 +1,4 @@
 -- `sheet::again` meets its contract: it is a load into the empty sheet.
--- Assumes nothing.
 use native.Mathlib.Nat.{sub-zero}
 use mathlib.Core.Path.{ap}
 use Rattle.sheet.specs.declared.Repaired.{Repaired}

@@ -1,5 +1,4 @@
 -- `sheet::byte_step` meets its contract: the test is the definition's.
--- Assumes nothing.
 use Rattle.sheet.specs.Repairs.{byteStep}
 use borrow.Author.Needs.{needs}
 use Rattle.sheet.proofs.byte_step.Statement.{statement}

@@ -1,5 +1,4 @@
 -- `sheet::copied` meets its contract: the text's bytes, and the zeros past them.
--- Assumes nothing.
 use Rattle.sheet.proofs.Sheets.{copied-text}
 use borrow.Author.Needs.{needs}
 use Rattle.sheet.proofs.copied.Statement.{statement}

@@ -1,5 +1,4 @@
 -- `sheet::digits_place` meets its contract: one test on the kind.
--- Assumes nothing.
 use borrow.Author.Tests.{eq-eqb, ne-eqb}
 use Rattle.sheet.proofs.digits_place.Statement.{statement}
 use Rattle.sheet.proofs.digits_place.Tie as tie

@@ -1,5 +1,4 @@
 -- `sheet::empty` meets its contract: it is zero throughout.
--- Assumes nothing.
 use Rattle.sheet.specs.Sheets.{emptySheet}
 use borrow.Author.Needs.{needs}
 use Rattle.sheet.proofs.empty.Statement.{statement}

@@ -1,5 +1,4 @@
 -- `sheet::exchange` meets its contract: the refusals before the text in their order, and the repair to the text with the two exchanged.
--- Assumes nothing.
 use mathlib.Core.Path.{_≡_, _∙_, sym}
 use Rattle.answer.proofs.Laws.{then-is}
 use Rattle.sheet.proofs.Repairs.{exchangeSteps, Exchanges, exchanges, exchange-stops}

@@ -1,5 +1,4 @@
 -- `sheet::fill` meets its contract: where the sheet stands, its check digits' places are inside, and the text with the new digits passes every step.
--- Assumes nothing.
 use native.Mathlib.Nat.{sub-zero}
 use native.Mathlib.Omega.{arith}
 use mathlib.Core.Path.{_≡_, _∙_, sym}

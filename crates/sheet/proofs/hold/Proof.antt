@@ -1,5 +1,4 @@
 -- `sheet::hold` meets its contract: an IBAN as its rule holds it, an LEI as it stands.
--- Assumes nothing.
 use mathlib.Core.Path.{_∙_, sym}
 use borrow.Author.Needs.{needs}
 use Rattle.answer.specs.declared.Step.the-variants.{Pass, Stop}

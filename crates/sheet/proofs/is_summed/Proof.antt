@@ -1,5 +1,4 @@
 -- `sheet::is_summed` meets its contract: the answer's number is 0 or 5.
--- Assumes nothing.
 use borrow.Author.Tests.{eq-eqb, ne-eqb}
 use Rattle.sheet.specs.Load.{summed}
 use borrow.Author.Needs.{needs}

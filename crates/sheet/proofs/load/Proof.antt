@@ -1,5 +1,4 @@
 -- `sheet::load` meets its contract: the kind, the check of the field, and what is held of it where the check answers 0 or 5.
--- Assumes nothing.
 use mathlib.Core.Path.{_∙_, sym}
 use Rattle.sheet.proofs.Loads.{load-low, load-high, load-written, load-kept}
 use borrow.Author.Needs.{needs}

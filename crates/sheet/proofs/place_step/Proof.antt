@@ -1,5 +1,4 @@
 -- `sheet::place_step` meets its contract: the test is the definition's.
--- Assumes nothing.
 use borrow.Author.Tests.{lt-ltb, le-ltb}
 use Rattle.sheet.specs.Repairs.{placeStep}
 use Rattle.sheet.proofs.place_step.Statement.{statement}

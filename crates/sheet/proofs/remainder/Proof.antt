@@ -1,5 +1,4 @@
 -- `sheet::remainder` meets its contract: one test on the kind.
--- Assumes nothing.
 use borrow.Author.Tests.{eq-eqb, ne-eqb}
 use Rattle.sheet.specs.Sheets.{remainderBy}
 use borrow.Author.Needs.{needs}

@@ -1,5 +1,4 @@
 -- `sheet::renewed` meets its contract: the character steps' word on the new text, and the sheet with a fresh check's answer where they pass.
--- Assumes nothing.
 use native.Mathlib.Nat.{sub-zero}
 use mathlib.Core.Path.{_∙_, sym}
 use Rattle.sheet.proofs.Repairs.{renews, refuses}

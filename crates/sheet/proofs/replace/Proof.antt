@@ -1,5 +1,4 @@
 -- `sheet::replace` meets its contract: the refusals before the text in their order, and the repair to the text with the byte in its place.
--- Assumes nothing.
 use mathlib.Core.Path.{_≡_, _∙_, sym}
 use Rattle.answer.proofs.Laws.{then-is}
 use Rattle.sheet.proofs.Repairs.{replaceSteps, Replaces, replaces, replace-stops}

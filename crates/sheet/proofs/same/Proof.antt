@@ -1,5 +1,4 @@
 -- `sheet::same` meets its contract: the tests are the definition's, part by part.
--- Assumes nothing.
 use borrow.Author.Tests.{eq-eqb, ne-eqb}
 use Rattle.sheet.specs.Sheets.{sameSheet}
 use borrow.Author.Needs.{needs}

@@ -1,5 +1,4 @@
 -- `sheet::same_text` meets its contract. The invariant: the comparison from the place reached on is that of the whole.
--- Assumes nothing.
 use Prim.Native.Nat.{_-_}
 use mathlib.Core.Path.{_≡_, refl, sym, _∙_}
 use native.Mathlib.Omega.{arith}

@@ -1,5 +1,4 @@
 -- `sheet::sheet_step` meets its contract: the test is the definition's.
--- Assumes nothing.
 use Rattle.sheet.specs.Repairs.{sheetStep}
 use borrow.Author.Needs.{needs}
 use Rattle.sheet.proofs.sheet_step.Statement.{statement}

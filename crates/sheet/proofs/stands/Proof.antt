@@ -1,5 +1,4 @@
 -- `sheet::stands` meets its contract: the empty sheet and one that is too long do not, any other where a load of its own text gives it.
--- Assumes nothing.
 use mathlib.Core.Path.{_∙_, sym}
 use Rattle.sheet.proofs.Sheets.{empty-falls, long-falls, by-own}
 use borrow.Author.Needs.{needs}

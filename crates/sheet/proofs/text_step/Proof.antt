@@ -1,6 +1,7 @@
 -- `sheet::text_step` meets its contract: the word of the character steps, as refusal 22.
--- Assumes nothing.
+use mathlib.Core.Path.{ap}
 use borrow.Author.Needs.{needs}
+use Rattle.answer.specs.declared.Numbers.{Numbers}
 use Rattle.answer.specs.declared.Step.the-variants.{Pass, Stop}
 use Rattle.sheet.proofs.Repairs.{text-step-is}
 use Rattle.sheet.proofs.text_step.Statement.{statement}
@@ -15,8 +16,8 @@ enum-told c = search needs
 enum-known-step : tie.Need-enum-known-step
 enum-known-step c = search needs
 
-place-requires : tie.Need-place-requires
-place-requires c κs = search needs
+numbers-requires : tie.Need-numbers-requires
+numbers-requires c κs = search needs
 
 returns : tie.Need-returns
 returns c = text-step-is _ _ _ (c .before .before .hold .ensures) Pass (c .enum-told .given .1)
@@ -24,8 +25,8 @@ returns c = text-step-is _ _ _ (c .before .before .hold .ensures) Pass (c .enum-
 returns-2 : tie.Need-returns-2
 returns-2 c =
     let s = c .before .before in
-    rw (c .place .ensures) (text-step-is _ _ _ (s .before .before .hold .ensures) (Stop _ _) (s .step .given .1))
+    rw (ap (λ (x : Numbers). x .place) (c .numbers .ensures)) (text-step-is _ _ _ (s .before .before .hold .ensures) (Stop _ _) (s .step .given .1))
 
 pub text-step-spec : {M : Type 1} → statement M
 text-step-spec =
-    tie.close (tie.spec hold-requires enum-told enum-known-step place-requires returns returns-2)
+    tie.close (tie.spec hold-requires enum-told enum-known-step numbers-requires returns returns-2)

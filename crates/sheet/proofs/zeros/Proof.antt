@@ -1,5 +1,4 @@
 -- `sheet::zeros` meets its contract: 34 zeros are an empty text's bytes.
--- Assumes nothing.
 use mathlib.Core.Path.{refl}
 use Rattle.iban.specs.Held.{padded}
 use Rattle.sheet.proofs.zeros.Statement.{statement}

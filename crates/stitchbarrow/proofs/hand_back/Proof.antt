@@ -1,8 +1,7 @@
 -- `stitchbarrow::hand_back` meets its contract: the sheet's bytes, and the answer's.
--- Assumes nothing.
 use mathlib.Core.Path.{ap}
 use borrow.Author.Needs.{needs}
-use Rattle.stitchbarrow.specs.Reply.{Reply, answered, handed}
+use Rattle.stitchbarrow.specs.Reply.{Reply, answerReply, handed}
 use Rattle.stitchbarrow.proofs.hand_back.Statement.{statement}
 use Rattle.stitchbarrow.proofs.hand_back.Tie as tie
 
@@ -19,7 +18,7 @@ same-length-2 : tie.Need-same-length-2
 same-length-2 c = search needs
 
 returns : tie.Need-returns
-unfolding handed answered
+unfolding handed answerReply
 returns c =
     let t = c .before .before in
     let w = t .before .before .before .before in

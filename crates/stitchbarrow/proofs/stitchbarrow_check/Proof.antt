@@ -1,5 +1,4 @@
 -- `stitchbarrow_check` meets its contract: the answer to the field is told, unless its slice is too short.
--- Assumes nothing.
 use borrow.Author.Tests.{lt-ltb, le-ltb}
 use borrow.Author.Needs.{needs}
 use Rattle.stitchbarrow.specs.Reply.{checkReply}

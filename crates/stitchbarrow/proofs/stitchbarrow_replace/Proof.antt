@@ -1,5 +1,4 @@
 -- `stitchbarrow_replace` meets its contract: the repair of the sheet that the bytes write is handed back, unless a slice is too short.
--- Assumes nothing.
 use mathlib.Core.Path.{_∙_}
 use lib.ListN.{length}
 use Rattle.stitchbarrow.proofs.Replies.{long-enough, nothing-written, both-written}

@@ -1,5 +1,4 @@
 -- `stitchbarrow_run` meets its contract: the call's outcome, and its three counts.
--- Assumes nothing.
 use native.Mathlib.Omega.{arith}
 use lib.ListN.{length-set}
 use borrow.Author.Tests.{lt-ltb, le-ltb}

@@ -1,8 +1,7 @@
 -- `stitchbarrow::tell` meets its contract: the answer's bytes are copied over the front of the slice.
--- Assumes nothing.
 use borrow.Author.Needs.{needs}
 use Rattle.batch.specs.Verdict.{answerBytes}
-use Rattle.stitchbarrow.specs.Reply.{answered}
+use Rattle.stitchbarrow.specs.Reply.{answerReply}
 use Rattle.stitchbarrow.proofs.tell.Statement.{statement}
 use Rattle.stitchbarrow.proofs.tell.Tie as tie
 
@@ -22,7 +21,7 @@ same-length : tie.Need-same-length
 same-length c = search needs
 
 returns : tie.Need-returns
-unfolding answered answerBytes
+unfolding answerReply answerBytes
 returns c =
     let p = c .before .before .before in
     let b = p .before .before .before in

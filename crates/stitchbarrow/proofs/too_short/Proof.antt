@@ -1,5 +1,4 @@
 -- `stitchbarrow::too_short` meets its contract: the two tests in the definition's order.
--- Assumes nothing.
 use borrow.Author.Tests.{lt-ltb, le-ltb}
 use Rattle.stitchbarrow.proofs.too_short.Statement.{statement}
 use Rattle.stitchbarrow.proofs.too_short.Tie as tie

@@ -1,5 +1,4 @@
 -- `stitchbarrow::write_sheet` meets its contract: the four parts, each written to its place.
--- Assumes nothing.
 use native.Mathlib.Omega.{arith}
 use borrow.Author.Needs.{needs}
 use mathlib.Core.Path.{_≡_}

@@ -1,5 +1,4 @@
 -- `text::at` meets its contract: past the end `getD` gives its default.
--- Assumes nothing.
 use mathlib.Core.Path.{sym}
 use denote.Ref.{now}
 use borrow.Author.Needs.{needs}

@@ -1,5 +1,4 @@
 -- `text::between` meets its contract: the first test decides which of the two answers stands.
--- Assumes nothing.
 use borrow.Author.Tests.{le-leb, lt-leb}
 use Rattle.text.proofs.between.Statement.{statement}
 use Rattle.text.proofs.between.Tie as tie

@@ -1,5 +1,4 @@
 -- `text::classify` meets its contract: the tests that led to each return bound the byte in a range that no row of the table splits.
--- Assumes nothing.
 use mathlib.Core.Path.{sym}
 use native.Mathlib.Omega.{arith}
 use Rattle.text.proofs.Classes.{classed}

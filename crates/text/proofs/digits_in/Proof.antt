@@ -1,5 +1,4 @@
 -- `text::digits_in` meets its contract: where the digits stand there they are inside the field and write a number below 10^4.
--- Assumes nothing.
 use mathlib.Core.Path.{_≡_, sym, _∙_}
 use native.Mathlib.Omega.{arith}
 use borrow.Author.Needs.{needs}

@@ -1,5 +1,4 @@
 -- `text::first_place` meets its contract. The invariant: the place is what was passed and the place from there on. The measure is what is left.
--- Assumes nothing.
 use Prim.Native.Nat.{_+_, _-_, _≤_}
 use mathlib.Core.Path.{_≡_}
 use native.Mathlib.Omega.{arith}

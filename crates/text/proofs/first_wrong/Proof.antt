@@ -1,5 +1,4 @@
 -- `text::first_wrong` meets its contract: the bytes between two places are as many as the places are apart.
--- Assumes nothing.
 use mathlib.Core.Path.{_≡_}
 use Prim.Native.Nat.{_-_}
 use native.Mathlib.Omega.{arith}

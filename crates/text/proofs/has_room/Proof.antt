@@ -1,5 +1,4 @@
 -- `text::has_room` meets its contract: up to a tenth of the limit the test is what is left below it; above, ten times the number is past it.
--- Assumes nothing.
 use Prim.Native.Nat.{ℕ, _+_, _*_, _^_, _≤_, _<_}
 use mathlib.Core.Bool.{Bool, true, false}
 use mathlib.Core.Path.{_≡_, refl, sym}

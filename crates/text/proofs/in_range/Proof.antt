@@ -1,5 +1,4 @@
 -- `text::in_range` meets its contract: the test is the definition's.
--- Assumes nothing.
 use borrow.Author.Needs.{needs}
 use Rattle.text.specs.Field.{inRange}
 use Rattle.text.proofs.in_range.Statement.{statement}

@@ -1,5 +1,4 @@
 -- `text::length_is` meets its contract: the test is the definition's.
--- Assumes nothing.
 use borrow.Author.Tests.{eq-eqb, ne-eqb}
 use Rattle.text.specs.Field.{lengthIs}
 use Rattle.text.proofs.length_is.Statement.{statement}

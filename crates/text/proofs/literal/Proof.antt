@@ -1,5 +1,4 @@
 -- `text::literal` meets its contract: the test is the definition's, on the byte that `at` reads.
--- Assumes nothing.
 use borrow.Author.Tests.{eq-eqb, ne-eqb}
 use borrow.Author.Needs.{needs}
 use Rattle.text.specs.Field.{literalAt}

@@ -1,5 +1,4 @@
 -- `text::number_of` meets its contract. The invariant: the number so far is that of the digits passed; digits that follow make it no smaller.
--- Assumes nothing.
 use Prim.Native.Nat.{_+_, _*_, _≤_, _<_, _-_, _^_}
 use mathlib.Core.Path.{_∙_, sym, ap, _≡_}
 use lib.Seq.{take-all}
@@ -7,12 +6,12 @@ use native.Mathlib.Omega.{arith}
 use borrow.Author.Needs.{needs}
 use lib.ListN.{length, take}
 use Rattle.text.proofs.Decimals.{number-none, number-more, number-grows, fits, over, fitted-is, over-is}
-use Rattle.text.specs.Decimal.{numberOf}
+use Rattle.text.specs.Decimal.{numberWritten}
 use Rattle.text.proofs.number_of.Statement.{statement}
 use Rattle.text.proofs.number_of.Tie as tie
 
 abbrev Inv-loop : tie.InvT-loop
-Inv-loop t n₀ i₀ n i = (i ≤ length t) × (n < 2 ^ 64) × (n ≡ numberOf (take i t))
+Inv-loop t n₀ i₀ n i = (i ≤ length t) × (n < 2 ^ 64) × (n ≡ numberWritten (take i t))
 
 abbrev μ-loop : tie.MeasureT-loop
 μ-loop t n₀ i₀ n i = length t - i
@@ -41,7 +40,7 @@ returns c =
     let k = w .before .before .before .before in
     let t = k .before .before .args .t .now in
     let m = over-is (k .loop .n * 10 + w .before .digit .result) (sym (w .with-digit .ensures) ∙ c .enum-told .given .1) in
-    over (numberOf t) (omega (arith, w .before .digit .ensures .0, number-more t (k .loop .i) (w .before .before .before .loop-test .taken), number-grows (k .loop .i + 1) t))
+    over (numberWritten t) (omega (arith, w .before .digit .ensures .0, number-more t (k .loop .i) (w .before .before .before .loop-test .taken), number-grows (k .loop .i + 1) t))
 
 add-i : tie.Need-add-i Inv-loop μ-loop
 add-i c = omega arith
@@ -61,7 +60,7 @@ returns-2 : tie.Need-returns-2 Inv-loop μ-loop
 returns-2 c =
     let k = c .before in
     let t = k .before .before .args .t .now in
-    let whole : k .loop .n ≡ numberOf t = k .loop .inv .2 ∙ ap numberOf (take-all (k .loop .i) t (omega arith)) in
+    let whole : k .loop .n ≡ numberWritten t = k .loop .inv .2 ∙ ap numberWritten (take-all (k .loop .i) t (omega arith)) in
     rw (← whole) (fits (k .loop .n) (k .loop .inv .1))
 
 pub number-of-spec : {M : Type 1} → statement M

@@ -1,5 +1,4 @@
 -- `text::present` meets its contract: the test is the definition's.
--- Assumes nothing.
 use borrow.Author.Tests.{lt-ltb, le-ltb}
 use Rattle.text.specs.Field.{present}
 use Rattle.text.proofs.present.Statement.{statement}

@@ -1,5 +1,4 @@
 -- `text::two_digits` meets its contract: the first wrong digit, or the number that the two write. A digit stands inside the field, so the next place fits.
--- Assumes nothing.
 use Prim.Native.Nat.{_<_, _+_}
 use mathlib.Core.Path.{_≡_, sym, _∙_, ap}
 use mathlib.Core.Bool.{true}

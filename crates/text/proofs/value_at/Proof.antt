@@ -1,5 +1,4 @@
 -- `text::value_at` meets its contract. The invariant: the value so far is that of the digits passed, which is at most the whole value.
--- Assumes nothing.
 use lib.Seq.{take-take, getD-drop}
 use lib.ListN.{take, drop, length-drop}
 use Prim.Native.Nat.{_<_, _≤_, _-_}
@@ -7,12 +6,12 @@ use mathlib.Core.Path.{_≡_}
 use native.Mathlib.Omega.{arith}
 use borrow.Author.Needs.{needs}
 use Rattle.text.proofs.Decimals.{number-none, number-more, number-grows}
-use Rattle.text.specs.Decimal.{numberOf}
+use Rattle.text.specs.Decimal.{numberWritten}
 use Rattle.text.proofs.value_at.Statement.{statement}
 use Rattle.text.proofs.value_at.Tie as tie
 
 abbrev Inv-loop : tie.InvT-loop
-Inv-loop s i n v₀ k₀ v k = (k ≤ n) × (v ≡ numberOf (take k (drop i s)))
+Inv-loop s i n v₀ k₀ v k = (k ≤ n) × (v ≡ numberWritten (take k (drop i s)))
 
 abbrev μ-loop : tie.MeasureT-loop
 μ-loop s i n v₀ k₀ v k = n - k

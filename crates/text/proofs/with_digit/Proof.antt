@@ -1,5 +1,4 @@
 -- `text::with_digit` meets its contract: the number fits where there is room for the digit.
--- Assumes nothing.
 use Prim.Native.Nat.{_+_, _*_, _^_, _≤_, _<_}
 use mathlib.Core.Path.{_≡_, sym, _∙_}
 use native.Mathlib.Omega.{arith}

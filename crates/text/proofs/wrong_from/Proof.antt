@@ -1,6 +1,5 @@
 -- `text::wrong_from` meets its contract. The invariant: the search from i over what is left gives what the whole search gives.
 -- An allowed byte stands inside the field, so the next place fits. The measure is what is left.
--- Assumes nothing.
 use lib.ListN.{length, getD}
 use Prim.Native.Nat.{_<_, _-_}
 use mathlib.Core.Path.{_≡_, refl, sym, _∙_}

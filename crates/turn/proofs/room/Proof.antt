@@ -1,5 +1,4 @@
 -- `turn::room` meets its contract: its test is that of the definition.
--- Assumes nothing.
 use borrow.Author.Needs.{needs}
 use borrow.Author.Tests.{lt-ltb, le-ltb}
 use Rattle.turn.proofs.room.Statement.{statement}

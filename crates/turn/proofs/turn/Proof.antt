@@ -1,5 +1,4 @@
 -- `turn::turn` meets its contract: the call has room for no more verdicts than have lines in the text, so all are written.
--- Assumes nothing.
 use mathlib.Core.Path.{sym}
 use lib.Seq.{length-take-le}
 use borrow.Author.Needs.{needs}

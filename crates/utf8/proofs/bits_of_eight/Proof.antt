@@ -1,5 +1,4 @@
 -- `utf8::bits_of_eight` meets its contract.
--- Assumes nothing.
 use native.Mathlib.Omega.{arith}
 use borrow.Author.Needs.{needs}
 use Rattle.utf8.proofs.Ascii.{ascii-eight}

@@ -1,5 +1,4 @@
 -- `utf8::by_row` meets its contract: the bytes that were read are those by which `front` decides.
--- Assumes nothing.
 use mathlib.Core.Path.{refl}
 use denote.Ref.{now}
 use Rattle.utf8.proofs.Chars.{decodes, decodes-not}

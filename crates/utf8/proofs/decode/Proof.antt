@@ -1,5 +1,4 @@
 -- `utf8::decode` meets its contract: past the end there is no character, a byte below 128 is one, and else `by_row` decides.
--- Assumes nothing.
 use mathlib.Core.Path.{refl}
 use denote.Ref.{now}
 use lib.ListN.{drop-of-length-le}

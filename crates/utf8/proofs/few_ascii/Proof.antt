@@ -1,5 +1,4 @@
 -- `utf8::few_ascii` meets its contract. The loop's invariant: the bits so far and the bytes that are left say whether the text is ASCII.
--- Assumes nothing.
 use Prim.Native.Nat.{_-_, _≤_}
 use mathlib.Core.Path.{_≡_, refl, sym, _∙_}
 use native.Mathlib.Omega.{arith}
@@ -7,14 +6,14 @@ use borrow.Author.Needs.{needs}
 use denote.Ref.{now}
 use lib.Dec.{ltb}
 use lib.ListN.{length, drop}
-use Rattle.answer.specs.Choice.{both}
+use mathlib.Core.Bool.{_&&_}
 use Rattle.utf8.specs.Chars.{ascii}
 use Rattle.utf8.proofs.Ascii.{ascii-more, ascii-done}
 use Rattle.utf8.proofs.few_ascii.Statement.{statement}
 use Rattle.utf8.proofs.few_ascii.Tie as tie
 
 abbrev Inv-loop : tie.InvT-loop
-Inv-loop s bits₀ i₀ bits i = (i ≤ length s) × (both (ltb bits 128) (ascii (drop i s)) ≡ ascii s)
+Inv-loop s bits₀ i₀ bits i = (i ≤ length s) × ((ltb bits 128 && ascii (drop i s)) ≡ ascii s)
 
 abbrev μ-loop : tie.MeasureT-loop
 μ-loop s bits₀ i₀ bits i = length s - i

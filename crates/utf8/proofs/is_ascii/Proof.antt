@@ -1,5 +1,4 @@
 -- `utf8::is_ascii` meets its contract. The loop's invariant: the bytes before the place are ASCII.
--- Assumes nothing.
 use Prim.Native.Nat.{_+_, _-_, _≤_}
 use mathlib.Core.Path.{_≡_, refl, sym, _∙_, ap}
 use mathlib.Core.Bool.{true}

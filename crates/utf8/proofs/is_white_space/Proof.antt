@@ -1,5 +1,4 @@
 -- `utf8::is_white_space` meets its contract: a single code point is a row of its own, and between two tests no row of the table is split.
--- Assumes nothing.
 use Prim.Native.Nat.{ℕ, _≤_}
 use mathlib.Core.Path.{_≡_, sym}
 use mathlib.Core.Bool.{true, false}

@@ -1,5 +1,4 @@
 -- `utf8::lead_of` meets its contract: a single byte is a row of its own, and between two tests no row of the table is split.
--- Assumes nothing.
 use mathlib.Core.Path.{sym, _∙_}
 use mathlib.Core.Logic.{⊎-elim}
 use native.Mathlib.Omega.{arith}

@@ -1,5 +1,4 @@
 -- `utf8::need` meets its contract: the tests that led to each return are those of the definition.
--- Assumes nothing.
 use borrow.Author.Tests.{lt-ltb, le-ltb, le-leb, lt-leb}
 use Rattle.utf8.specs.Rfc3629.{needed}
 use Rattle.utf8.proofs.need.Statement.{statement}

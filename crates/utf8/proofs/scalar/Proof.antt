@@ -1,5 +1,4 @@
 -- `utf8::scalar` meets its contract: the width says which bytes carry bits, and joining six bits at a time weighs each byte as the definition does.
--- Assumes nothing.
 use native.Mathlib.Omega.{arith}
 use borrow.Author.Tests.{ne-eqb}
 use Rattle.utf8.specs.Rfc3629.{scalarOf}

@@ -1,5 +1,4 @@
 -- `utf8::valid_prefix` meets its contract: an ASCII text is its own prefix, and any other is walked.
--- Assumes nothing.
 use mathlib.Core.Path.{sym, _∙_}
 use borrow.Author.Needs.{needs}
 use Rattle.utf8.proofs.Ascii.{ascii-prefix}

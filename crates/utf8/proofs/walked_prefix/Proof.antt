@@ -1,5 +1,4 @@
 -- `utf8::walked_prefix` meets its contract. The loop's invariant: what is passed, and the width of the characters that start where it stands, are the whole prefix.
--- Assumes nothing.
 use Prim.Native.Nat.{_+_, _-_, _≤_}
 use mathlib.Core.Path.{_≡_, sym, ap, _∙_}
 use native.Mathlib.Omega.{arith}

@@ -1,5 +1,4 @@
 -- `utf8::well_formed` meets its contract: each later byte is asked for in turn, and the first that does not fit decides.
--- Assumes nothing.
 use mathlib.Core.Path.{sym, _∙_}
 use borrow.Author.Tests.{eq-eqb, ne-eqb}
 use Rattle.utf8.specs.Rfc3629.{wellFormed}

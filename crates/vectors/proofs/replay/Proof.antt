@@ -1,5 +1,4 @@
 -- `vectors::replay` meets its contract: each word ends within the list, and the line's end is past its first byte.
--- Assumes nothing.
 use native.Mathlib.Omega.{arith}
 use borrow.Author.Needs.{needs}
 use Rattle.vectors.proofs.replay.Statement.{statement}

@@ -1,5 +1,4 @@
 -- `vectors::replay_all` meets its contract: each line moves the place on.
--- Assumes nothing.
 use borrow.Author.Needs.{needs}
 use Prim.Native.Nat.{_≤_, _-_}
 use mathlib.Core.Path.{_≡_}

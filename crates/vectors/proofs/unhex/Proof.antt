@@ -1,5 +1,4 @@
 -- `vectors::unhex` meets its contract: each turn reads two characters of the word and writes one byte, where there is room.
--- Assumes nothing.
 use Prim.Native.Nat.{_≤_, _-_, _*_}
 use mathlib.Core.Path.{_≡_}
 use native.Mathlib.Omega.{arith}

@@ -1,5 +1,4 @@
 -- `vectors::word_end` meets its contract: the place only moves on, up to the length.
--- Assumes nothing.
 use Prim.Native.Nat.{_≤_, _-_}
 use native.Mathlib.Omega.{arith}
 use lib.ListN.{length}

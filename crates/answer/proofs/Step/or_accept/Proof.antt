@@ -1,5 +1,4 @@
 -- `answer::Step::or_accept` meets its contract: the answer follows the step's two cases.
--- Assumes nothing.
 use borrow.Author.Needs.{needs}
 use Rattle.answer.specs.Steps.{_orAccept_}
 use Rattle.answer.proofs.Step.or_accept.Statement.{statement}
