@@ -1,7 +1,7 @@
 -- The laws and theorems of `iban`.
-pub mod Lefts
-pub mod Classes
-pub mod Holding
-pub mod Verdict
+pub mod Electronics
+pub mod Padded
+pub mod Blanks
+pub mod Formats
 pub mod Places
 pub mod Worked

@@ -1,4 +1,4 @@
--- Worked examples of SCOPE, kind 1: its table, blanks of several widths, and a refusal of each step.
+-- Worked examples of SCOPE, kind 1: its table, blanks of several widths, a refusal of each step, and a byte at which no character starts.
 use Prim.Native.Nat.{ℕ}
 use mathlib.Core.Path.{_≡_, refl}
 use mathlib.Core.List.{List, [], _∷_, _++_, map}
@@ -7,15 +7,16 @@ use Rattle.answer.specs.declared.Answer.the-variants.{Accepted, Refused}
 use Rattle.answer.specs.declared.Reason.the-variants.{Length, Wrong, Remainder}
 use Rattle.text.specs.Class.{classOf}
 use Rattle.text.specs.Decimal.{decimal}
+use Rattle.text.specs.Field.{wrongFrom, firstWrong}
 use Rattle.text.specs.Quote.{bytesOf}
 use Rattle.utf8.specs.Rfc3629.{leadOf, needed, wellFormed, scalarOf, charOf, front}
-use Rattle.utf8.specs.Chars.{charsPast}
+use Rattle.utf8.specs.Chars.{charsPast, widths, validPrefix}
 use Rattle.utf8.specs.Space.{whiteSpace}
 use Rattle.checkdigit.specs.Letter.{letterValue}
 use Rattle.checkdigit.specs.Sum.{characterValue, characterDigits, expand, remainderOf, rearranged, ibanRemainder}
 use Rattle.checkdigit.specs.Verdict.{remainderStep}
-use Rattle.iban.specs.Left.{leftFrom, left, textOf}
-use Rattle.iban.specs.Iban.{each, countStep, classSteps, ibanCharacters, ibanAnswer}
+use Rattle.iban.specs.Electronic.{electronicFrom, electronic, textOf, placeIn}
+use Rattle.iban.specs.Iban.{allAscii, asciiStep, countStep, classSteps, reasonIn, ibanCharacters, ibanAnswer}
 
 -- a no-break space, U+00A0, in two bytes
 abbrev blank : List ℕ
@@ -40,6 +41,8 @@ fields =
     ∷ bytesOf "AA96"
     ∷ bytesOf "Aa96A"
     ∷ bytesOf "AA96-"
+    ∷ (bytesOf "AA96A" ++ (0xFF ∷ []))
+    ∷ (bytesOf "A" ++ (0xFF ∷ []))
     ∷ []
 
 pub worked : map ibanAnswer fields
@@ -60,6 +63,8 @@ pub worked : map ibanAnswer fields
     ∷ Refused (Length 0 4) 102
     ∷ Refused (Wrong 1) 103
     ∷ Refused (Wrong 4) 105
+    ∷ Refused (Wrong 5) 101
+    ∷ Refused (Wrong 1) 101
     ∷ []
-unfolding classOf decimal leadOf needed wellFormed scalarOf charOf front charsPast whiteSpace letterValue characterValue characterDigits expand remainderOf rearranged ibanRemainder remainderStep leftFrom left textOf each countStep classSteps ibanCharacters ibanAnswer _andThen_ _orAccept_
+unfolding classOf decimal wrongFrom firstWrong leadOf needed wellFormed scalarOf charOf front charsPast widths validPrefix whiteSpace letterValue characterValue characterDigits expand remainderOf rearranged ibanRemainder remainderStep electronicFrom electronic textOf placeIn allAscii asciiStep countStep classSteps reasonIn ibanCharacters ibanAnswer _andThen_ _orAccept_
 worked = refl

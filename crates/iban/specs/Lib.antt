@@ -1,4 +1,5 @@
 -- The definitions that the contracts of `iban` cite.
-pub mod Left
+pub mod Electronic
 pub mod Iban
-pub mod Held
+pub mod Format
+pub mod Inner

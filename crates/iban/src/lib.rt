@@ -2,21 +2,23 @@
 ghost use mathlib.Core.Path.{_≡_};
 ghost use mathlib.Core.Bool.{true};
 ghost use mathlib.Core.List.{[]};
-ghost use Prim.Native.Nat.{_≤_};
 ghost use lib.ListN.{length, set};
+ghost use Rattle.answer.specs.declared.Reason.{Reason};
 ghost use Rattle.answer.specs.declared.Step.{Step};
 ghost use Rattle.utf8.specs.Chars.{ascii};
-ghost use Rattle.iban.specs.Left.{left, placeIn};
-ghost use Rattle.iban.specs.Iban.{countStep, ibanAnswer};
-ghost use Rattle.iban.specs.Held.{padded, heldBy, heldOf, heldSteps, Keeps};
+ghost use Rattle.iban.specs.Electronic.{electronic, placeIn};
+ghost use Rattle.iban.specs.Iban.{countStep, classSteps, reasonIn, ibanAnswer};
+ghost use Rattle.iban.specs.Format.{padded, formatBy, formatOf};
+ghost use Rattle.iban.specs.Inner.{Dropped};
 use answer::Answer;
 use answer::Reason;
 use answer::Step;
 use text::Set;
 use utf8::Decoded;
 
-// The word of the character steps; and where they pass, the text without its blanks, zeros after its last character.
-pub struct Held {
+// The word of every step but the remainder; and where they pass, the IBAN in electronic format (without blanks), zeros past its last
+// character.
+pub struct Electronic {
     pub step: Step,
     pub count: usize,
     pub text: [u8; 34],
@@ -37,9 +39,9 @@ fn put(text: &mut [u8], count: usize, b: u8)
     }
 }
 
-// The characters left of a field, up to the first that is not ASCII.
-fn keep(s: &[u8]) -> Held
-    ensures { λ r. ⌜ Keeps (now (s .entry)) r ⌝ }
+// The characters of a field that are no blanks, up to the first that is not ASCII and the first byte at which no character starts.
+fn drop_blanks(s: &[u8]) -> Electronic
+    ensures { λ r. ⌜ Dropped (now (s .entry)) r ⌝ }
 {
     let mut text = zeros();
     let mut count = 0;
@@ -53,20 +55,20 @@ fn keep(s: &[u8]) -> Held
                 }
                 if 128 <= scalar {
                     let step = Step::Stop(Reason::Wrong { place: at }, 101);
-                    return Held { step, count, text };
+                    return Electronic { step, count, text };
                 }
                 put(&mut text, count, (scalar % 256) as u8);
                 count += 1;
                 at += width;
             }
             Decoded::Bad => {
-                let step = Step::Pass;
-                return Held { step, count, text };
+                let step = Step::Stop(Reason::Wrong { place: at }, 101);
+                return Electronic { step, count, text };
             }
         }
     }
     let step = Step::Pass;
-    Held { step, count, text }
+    Electronic { step, count, text }
 }
 
 fn wide(b: u8) -> u32
@@ -75,10 +77,10 @@ fn wide(b: u8) -> u32
     b as u32
 }
 
-// The same of an ASCII field, in which no character is decoded and none is stray.
-fn keep_ascii(s: &[u8]) -> Held
+// The same for a field of ASCII bytes alone: each byte is a character, so that none is decoded and none can be refused here.
+fn drop_ascii_blanks(s: &[u8]) -> Electronic
     requires { ⌜ ascii (now s) ≡ true ⌝ }
-    ensures { λ r. ⌜ Keeps (now (s .entry)) r ⌝ }
+    ensures { λ r. ⌜ Dropped (now (s .entry)) r ⌝ }
 {
     let mut text = zeros();
     let mut count = 0;
@@ -94,30 +96,31 @@ fn keep_ascii(s: &[u8]) -> Held
         at += 1;
     }
     let step = Step::Pass;
-    Held { step, count, text }
+    Electronic { step, count, text }
 }
 
-fn kept(s: &[u8]) -> Held
-    ensures { λ r. ⌜ Keeps (now (s .entry)) r ⌝ }
+// Most fields are ASCII, and take the quick way.
+fn without_blanks(s: &[u8]) -> Electronic
+    ensures { λ r. ⌜ Dropped (now (s .entry)) r ⌝ }
 {
     if utf8::is_ascii(s) {
-        return keep_ascii(s);
+        return drop_ascii_blanks(s);
     }
-    keep(s)
+    drop_blanks(s)
 }
 
-// The class steps on a text without blanks, with places in that text.
+// The class steps on a text in electronic format, with places in that text.
 pub fn class_steps(t: &[u8]) -> Step
-    ensures { λ r. ⌜ r ≡ heldSteps (now (t .entry)) ⌝ }
+    ensures { λ r. ⌜ r ≡ classSteps (now (t .entry)) ⌝ }
 {
     text::first_wrong(Set::Capitals, t, 0, 2, 103)
         .then(text::first_wrong(Set::Digits, t, 2, 4, 104))
         .then(text::first_wrong(Set::LettersDigits, t, 4, t.len(), 105))
 }
 
-// The place in the field of the k-th character left.
+// The place in the lent field of the k-th character in electronic format.
 fn place_of(s: &[u8], k: usize) -> usize
-    ensures { λ r. ⌜ r ≡ placeIn k (left (now (s .entry))) ⌝ }
+    ensures { λ r. ⌜ r ≡ placeIn k (electronic (now (s .entry))) ⌝ }
 {
     let mut ahead = k;
     let mut at = 0;
@@ -145,6 +148,19 @@ fn place_of(s: &[u8], k: usize) -> usize
     0
 }
 
+// What a step said of the text in electronic format, said of the lent field.
+fn reason_in(s: &[u8], reason: Reason) -> Reason
+    ensures { λ r. ⌜ r ≡ reasonIn (electronic (now (s .entry))) reason ⌝ }
+{
+    let numbers = reason.numbers();
+    if numbers.number == 3 {
+        return Reason::Wrong {
+            place: place_of(s, numbers.place),
+        };
+    }
+    reason
+}
+
 fn count_step(n: usize) -> Step
     ensures { λ r. ⌜ r ≡ countStep n ⌝ }
 {
@@ -169,36 +185,32 @@ fn count_step(n: usize) -> Step
     Step::Pass
 }
 
-fn refused(reason: Reason, check: u32) -> Held
-    ensures { λ r. ⌜ r ≡ heldBy (Step.Stop reason check) [] ⌝ }
+fn refused(reason: Reason, check: u32) -> Electronic
+    ensures { λ r. ⌜ r ≡ formatBy (Step.Stop reason check) [] ⌝ }
 {
-    Held {
+    Electronic {
         step: Step::Stop(reason, check),
         count: 0,
         text: zeros(),
     }
 }
 
-// Every step but the remainder, and the text where they pass.
-pub fn hold(s: &[u8]) -> Held
-    ensures { λ r. ⌜ r ≡ heldOf (now (s .entry)) ⌝ }
+// Every step but the remainder, and the electronic format where they pass.
+pub fn electronic_format(s: &[u8]) -> Electronic
+    ensures { λ r. ⌜ r ≡ formatOf (now (s .entry)) ⌝ }
 {
-    let found = kept(s);
+    let found = without_blanks(s);
     let count = found.count;
     let text = found.text;
     let ascii = found.step;
     match ascii.then(count_step(count)) {
         Step::Pass => match class_steps(&text[0..count]) {
-            Step::Pass => Held {
+            Step::Pass => Electronic {
                 step: Step::Pass,
                 count,
                 text,
             },
-            Step::Stop(reason, check) => {
-                let numbers = reason.numbers();
-                let place = place_of(s, numbers.place);
-                refused(Reason::Wrong { place }, check)
-            }
+            Step::Stop(reason, check) => refused(reason_in(s, reason), check),
         },
         Step::Stop(reason, check) => refused(reason, check),
     }
@@ -207,10 +219,10 @@ pub fn hold(s: &[u8]) -> Held
 pub fn validate_iban(s: &[u8]) -> Answer
     ensures { λ r. ⌜ r ≡ ibanAnswer (now (s .entry)) ⌝ }
 {
-    let h = hold(s);
-    let count = h.count;
-    let text = h.text;
-    let step = h.step;
+    let e = electronic_format(s);
+    let count = e.count;
+    let text = e.text;
+    let step = e.step;
     match step {
         Step::Pass => {
             let r = checkdigit::iban_remainder(&text[0..count]);

@@ -5,13 +5,13 @@ use native.Mathlib.Omega.{arith}
 use denote.Ref.{now}
 use lib.ListN.{length}
 use Rattle.utf8.proofs.Chars.{Stands, stands, chars-bad, chars-end}
-use Rattle.iban.specs.Left.{left, placeIn}
-use Rattle.iban.proofs.Lefts.{leftAt, left-start, place-blank, place-here, place-next, place-none}
+use Rattle.iban.specs.Electronic.{electronic, placeIn}
+use Rattle.iban.proofs.Electronics.{electronicAt, electronic-start, place-blank, place-here, place-next, place-none}
 use Rattle.iban.proofs.place_of.Statement.{statement}
 use Rattle.iban.proofs.place_of.Tie as tie
 
 abbrev Inv-loop : tie.InvT-loop
-Inv-loop s k ahead₀ at₀ ahead at = (at ≤ length s) × (placeIn k (left s) ≡ placeIn ahead (leftAt s at))
+Inv-loop s k ahead₀ at₀ ahead at = (at ≤ length s) × (placeIn k (electronic s) ≡ placeIn ahead (electronicAt s at))
 
 abbrev μ-loop : tie.MeasureT-loop
 μ-loop s k ahead₀ at₀ ahead at = length s - at
@@ -22,7 +22,7 @@ char : (c : tie.After-known-told Inv-loop μ-loop)
 char c = stands _ _ _ _ (c .before .before .before .before .before .loop .inv .0) (sym (c .before .before .before .decode .ensures) ∙ c .before .code .given .1)
 
 loop-holds : tie.Need-loop-holds Inv-loop μ-loop
-loop-holds c = (omega arith, ap (placeIn _) (left-start _))
+loop-holds c = (omega arith, ap (placeIn _) (electronic-start _))
 
 decode-requires : tie.Need-decode-requires Inv-loop μ-loop
 decode-requires c κs = tt

@@ -1,6 +1,6 @@
 -- `iban::refused` meets its contract: no text where a step stopped.
 use borrow.Author.Needs.{needs}
-use Rattle.iban.specs.Held.{heldBy}
+use Rattle.iban.specs.Format.{formatBy}
 use Rattle.iban.proofs.refused.Statement.{statement}
 use Rattle.iban.proofs.refused.Tie as tie
 
@@ -8,7 +8,7 @@ zeros-requires : tie.Need-zeros-requires
 zeros-requires c κs = search needs
 
 returns : tie.Need-returns
-unfolding heldBy
+unfolding formatBy
 returns c = rw (c .zeros .ensures)
 
 pub refused-spec : {M : Type 1} → statement M

@@ -1,4 +1,4 @@
--- `iban::validate_iban` meets its contract: the character steps' word, and the sum's over the held text where they pass.
+-- `iban::validate_iban` meets its contract: the character steps' word, and the sum's over the text in electronic format where they pass.
 use Prim.Native.Nat.{ℕ}
 use mathlib.Core.Path.{sym, _∙_, ap}
 use native.Mathlib.Omega.{arith}
@@ -6,12 +6,12 @@ use borrow.Author.Needs.{needs}
 use Rattle.answer.proofs.Laws.{accept-is}
 use Rattle.checkdigit.specs.Sum.{ibanRemainder}
 use Rattle.checkdigit.specs.Verdict.{remainderStep}
-use Rattle.iban.proofs.Verdict.{room, text-is, sum-answers, step-answers}
+use Rattle.iban.proofs.Formats.{room, text-is, sum-answers, step-answers}
 use Rattle.iban.proofs.validate_iban.Statement.{statement}
 use Rattle.iban.proofs.validate_iban.Tie as tie
 
-hold-requires : tie.Need-hold-requires
-hold-requires c κs = search needs
+electronic-format-requires : tie.Need-electronic-format-requires
+electronic-format-requires c κs = search needs
 
 enum-told : tie.Need-enum-told
 enum-told c = search needs
@@ -25,7 +25,7 @@ part-iban-remainder-start c = search needs
 part-iban-remainder-end : tie.Need-part-iban-remainder-end
 part-iban-remainder-end c =
     let h = c .before .before .before .before in
-    omega (arith, room _ _ (h .hold .ensures))
+    omega (arith, room _ _ (h .electronic-format .ensures))
 
 iban-remainder-requires : tie.Need-iban-remainder-requires
 iban-remainder-requires c κs = search needs
@@ -44,20 +44,20 @@ returns c =
     let d = c .before .before .before .before .before in
     let h = d .before .before .before in
     let e = d .enum-told .given .1 in
-    let r = c .before .before .iban-remainder .ensures .is ∙ ap ibanRemainder (text-is _ _ (h .hold .ensures) e) in
+    let r = c .before .before .iban-remainder .ensures .is ∙ ap ibanRemainder (text-is _ _ (h .electronic-format .ensures) e) in
     accept-is 1 (c .or-accept .ensures) (c .before .remainder-is-one .ensures ∙ ap (λ (n : ℕ). remainderStep n 106) r)
-    ∙ sym (sum-answers _ _ (h .hold .ensures) e)
+    ∙ sym (sum-answers _ _ (h .electronic-format .ensures) e)
 
 returns-2 : tie.Need-returns-2
 returns-2 c =
     let h = c .before .before .before .before in
-    step-answers _ _ (h .hold .ensures) _ _ (c .before .step .given .1)
+    step-answers _ _ (h .electronic-format .ensures) _ _ (c .before .step .given .1)
 
 pub validate-iban-spec : {M : Type 1} → statement M
 validate-iban-spec =
     tie.close
     (tie.spec
-    hold-requires
+    electronic-format-requires
     enum-told
     sub-iban-remainder
     part-iban-remainder-start

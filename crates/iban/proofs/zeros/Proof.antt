@@ -1,6 +1,6 @@
 -- `iban::zeros` meets its contract: 34 zeros pad the empty text.
 use mathlib.Core.Path.{refl}
-use Rattle.iban.specs.Held.{padded}
+use Rattle.iban.specs.Format.{padded}
 use Rattle.iban.proofs.zeros.Statement.{statement}
 use Rattle.iban.proofs.zeros.Tie as tie
 

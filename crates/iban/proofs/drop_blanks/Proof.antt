@@ -1,17 +1,18 @@
--- `iban::keep` meets its contract. The invariant: what is held so far, and what is left of the field from there on, are what is left of it.
+-- `iban::drop_blanks` meets its contract. The invariant: the text so far, and the characters from there on, are the field's in electronic format.
 use mathlib.Core.Path.{sym, _∙_, ap}
 use Prim.Native.Nat.{_-_}
 use native.Mathlib.Omega.{arith}
 use borrow.Author.Needs.{needs}
 use denote.Ref.{now}
 use lib.ListN.{length}
-use Rattle.iban.proofs.Holding.{Keeping, length-padded, starts, past-blank, past-char, stray, ends}
+use Rattle.iban.proofs.Padded.{length-padded}
+use Rattle.iban.proofs.Blanks.{Dropping, starts, past-blank, past-char, beyond-ascii, no-character, ends}
 use Rattle.utf8.proofs.Chars.{Stands, stands, chars-bad, chars-end}
-use Rattle.iban.proofs.keep.Statement.{statement}
-use Rattle.iban.proofs.keep.Tie as tie
+use Rattle.iban.proofs.drop_blanks.Statement.{statement}
+use Rattle.iban.proofs.drop_blanks.Tie as tie
 
 abbrev Inv-loop : tie.InvT-loop
-Inv-loop s text₀ count₀ at₀ text count at = Keeping s at count text
+Inv-loop s text₀ count₀ at₀ text count at = Dropping s at count text
 
 abbrev μ-loop : tie.MeasureT-loop
 μ-loop s text₀ count₀ at₀ text count at = length s - at
@@ -50,7 +51,7 @@ loop-again c =
 returns : tie.Need-returns Inv-loop μ-loop
 returns c =
     let k = c .before .before .before .before .before .before .before .before in
-    stray _ _ _ _ (k .loop .inv) _ _ (char (c .before .before .before)) (sym (c .before .before .is-white-space .ensures) ∙ c .before .if1 .left) (c .if2 .taken)
+    beyond-ascii _ _ _ _ (k .loop .inv) _ _ (char (c .before .before .before)) (sym (c .before .before .is-white-space .ensures) ∙ c .before .if1 .left) (c .if2 .taken)
 
 slice-aggregate-put : tie.Need-slice-aggregate-put Inv-loop μ-loop
 slice-aggregate-put c =
@@ -86,13 +87,15 @@ enum-told : tie.Need-enum-told Inv-loop μ-loop
 enum-told c = c .match .keys2
 
 returns-2 : tie.Need-returns-2 Inv-loop μ-loop
-returns-2 c = ends _ _ _ _ (c .before .before .before .before .loop .inv) (chars-bad _ (sym (c .before .before .decode .ensures) ∙ c .enum-told .given .1))
+returns-2 c =
+    let d = c .before .before .before in
+    no-character _ _ _ _ (d .before .loop .inv) (chars-bad _ (sym (c .before .before .decode .ensures) ∙ c .enum-told .given .1)) (d .loop-test .taken)
 
 returns-3 : tie.Need-returns-3 Inv-loop μ-loop
-returns-3 c = ends _ _ _ _ (c .before .loop .inv) (chars-end (now (c .before .before .before .before .args .s)) (c .before .loop .at) (c .loop-test .left))
+returns-3 c = ends _ _ _ _ (c .before .loop .inv) (chars-end (now (c .before .before .before .before .args .s)) (c .before .loop .at) (c .loop-test .left)) (c .loop-test .left)
 
-pub keep-spec : {M : Type 1} → statement M
-keep-spec =
+pub drop-blanks-spec : {M : Type 1} → statement M
+drop-blanks-spec =
     tie.close
     (tie.spec
     Inv-loop

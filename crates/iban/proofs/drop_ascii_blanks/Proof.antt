@@ -1,4 +1,4 @@
--- `iban::keep_ascii` meets its contract: as `keep`, with each byte a character of its own.
+-- `iban::drop_ascii_blanks` meets its contract: as `drop_blanks`, with each byte a character of its own.
 use Prim.Native.Nat.{_-_, _%_, _<_}
 use mathlib.Core.Path.{_≡_, sym, _∙_, ap}
 use native.Mathlib.Omega.{arith}
@@ -7,12 +7,13 @@ use lib.ListN.{length, getD}
 use Rattle.utf8.specs.Space.{whiteSpace}
 use Rattle.utf8.proofs.Ascii.{ascii-below}
 use Rattle.utf8.proofs.Chars.{Stands, ascii-stands, chars-end}
-use Rattle.iban.proofs.Holding.{Keeping, length-padded, starts, past-blank, past-char, ends}
-use Rattle.iban.proofs.keep_ascii.Statement.{statement}
-use Rattle.iban.proofs.keep_ascii.Tie as tie
+use Rattle.iban.proofs.Padded.{length-padded}
+use Rattle.iban.proofs.Blanks.{Dropping, starts, past-blank, past-char, ends}
+use Rattle.iban.proofs.drop_ascii_blanks.Statement.{statement}
+use Rattle.iban.proofs.drop_ascii_blanks.Tie as tie
 
 abbrev Inv-loop : tie.InvT-loop
-Inv-loop s text₀ count₀ at₀ text count at = Keeping s at count text
+Inv-loop s text₀ count₀ at₀ text count at = Dropping s at count text
 
 abbrev μ-loop : tie.MeasureT-loop
 μ-loop s text₀ count₀ at₀ text count at = length s - at
@@ -85,10 +86,10 @@ loop-again-2 c =
     (rw same at (past-char _ _ _ _ (k .loop .inv) _ _ (char d) (sym (white (c .before .before .before .before)) ∙ c .before .before .before .if1 .left) (small d)))
 
 returns : tie.Need-returns Inv-loop μ-loop
-returns c = ends _ _ _ _ (c .before .loop .inv) (chars-end (now (c .before .before .before .before .args .s)) (c .before .loop .at) (c .loop-test .left))
+returns c = ends _ _ _ _ (c .before .loop .inv) (chars-end (now (c .before .before .before .before .args .s)) (c .before .loop .at) (c .loop-test .left)) (c .loop-test .left)
 
-pub keep-ascii-spec : {M : Type 1} → statement M
-keep-ascii-spec =
+pub drop-ascii-blanks-spec : {M : Type 1} → statement M
+drop-ascii-blanks-spec =
     tie.close
     (tie.spec
     Inv-loop

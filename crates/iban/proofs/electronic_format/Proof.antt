@@ -1,19 +1,18 @@
--- `iban::hold` meets its contract: the first pass, the count, and the class steps on the held text, whose place is put back into the field.
+-- `iban::electronic_format` meets its contract: the first pass, the count, and the class steps on the text, whose word is said of the lent field.
 use mathlib.Core.Path.{sym, ap, _∙_}
 use native.Mathlib.Omega.{arith}
 use denote.Ref.{now}
 use borrow.Author.Needs.{needs}
-use Rattle.answer.specs.declared.Numbers.{Numbers}
-use Rattle.iban.proofs.Verdict.{Whole, whole, stopped, held-whole, held-wrong}
-use Rattle.iban.proofs.hold.Statement.{statement}
-use Rattle.iban.proofs.hold.Tie as tie
+use Rattle.iban.proofs.Formats.{Whole, whole, stopped, format-whole, format-wrong}
+use Rattle.iban.proofs.electronic_format.Statement.{statement}
+use Rattle.iban.proofs.electronic_format.Tie as tie
 
--- what is held where the first two steps passed
-passed : (c : tie.After-enum-told) → Whole (now (c .before .before .before .before .before .before .before .args .s)) (c .before .before .before .before .before .kept .result) (c .before .before .before .before .before .kept .ensures)
-passed c = whole _ _ (c .before .before .before .before .before .kept .ensures) (rw (← c .before .before .before .count-step .ensures) (sym (c .before .before .then .ensures) ∙ c .enum-told .given .1))
+-- what the first pass found where the first two steps passed
+passed : (c : tie.After-enum-told) → Whole (now (c .before .before .before .before .before .before .before .args .s)) (c .before .before .before .before .before .without-blanks .result) (c .before .before .before .before .before .without-blanks .ensures)
+passed c = whole _ _ (c .before .before .before .before .before .without-blanks .ensures) (rw (← c .before .before .before .count-step .ensures) (sym (c .before .before .then .ensures) ∙ c .enum-told .given .1))
 
-kept-requires : tie.Need-kept-requires
-kept-requires c κs = search needs
+without-blanks-requires : tie.Need-without-blanks-requires
+without-blanks-requires c κs = search needs
 
 count-step-requires : tie.Need-count-step-requires
 count-step-requires c κs = search needs
@@ -42,11 +41,8 @@ enum-told-2 c = search needs
 enum-known-reason : tie.Need-enum-known-reason
 enum-known-reason c = search needs
 
-numbers-requires : tie.Need-numbers-requires
-numbers-requires c κs = search needs
-
-place-of-requires : tie.Need-place-of-requires
-place-of-requires c κs = search needs
+reason-in-requires : tie.Need-reason-in-requires
+reason-in-requires c κs = search needs
 
 refused-requires : tie.Need-refused-requires
 refused-requires c κs = search needs
@@ -61,29 +57,29 @@ returns : tie.Need-returns
 returns c =
     let d = c .before .before in
     let e = d .before .before .before in
-    held-whole _ _ (e .before .before .before .before .before .kept .ensures) (passed e) _ (d .class-steps .ensures) (c .enum-told2 .given .1)
+    format-whole _ _ (e .before .before .before .before .before .without-blanks .ensures) (passed e) _ (d .class-steps .ensures) (c .enum-told2 .given .1)
 
 returns-2 : tie.Need-returns-2
 returns-2 c =
-    let n = c .before .before .before in
+    let n = c .before .before in
     let d = n .before .before .before in
     let e = d .before .before .before in
     c .refused .ensures
-    ∙ rw (c .before .place-of .ensures, ap (λ (x : Numbers). x .place) (c .before .before .numbers .ensures))
-    (held-wrong _ _ (e .before .before .before .before .before .kept .ensures) (passed e) _ (d .class-steps .ensures) _ _ (n .before .reason .given .1))
+    ∙ rw (c .before .reason-in .ensures)
+    (format-wrong _ _ (e .before .before .before .before .before .without-blanks .ensures) (passed e) _ (d .class-steps .ensures) _ _ (n .before .reason .given .1))
 
 returns-3 : tie.Need-returns-3
 returns-3 c =
     let n = c .before in
     let t = n .before .before .before in
     c .refused2 .ensures
-    ∙ stopped _ _ (t .before .before .before .kept .ensures) _ _ (rw (← t .before .count-step .ensures) (sym (t .then .ensures) ∙ n .before .reason2 .given .1))
+    ∙ stopped _ _ (t .before .before .before .without-blanks .ensures) _ _ (rw (← t .before .count-step .ensures) (sym (t .then .ensures) ∙ n .before .reason2 .given .1))
 
-pub hold-spec : {M : Type 1} → statement M
-hold-spec =
+pub electronic-format-spec : {M : Type 1} → statement M
+electronic-format-spec =
     tie.close
     (tie.spec
-    kept-requires
+    without-blanks-requires
     count-step-requires
     then-requires
     enum-told
@@ -93,8 +89,7 @@ hold-spec =
     class-steps-requires
     enum-told-2
     enum-known-reason
-    numbers-requires
-    place-of-requires
+    reason-in-requires
     refused-requires
     enum-known-reason-2
     refused-requires-2
