@@ -24,7 +24,7 @@ pub struct Electronic {
     pub text: [u8; 34],
 }
 
-fn zeros() -> [u8; 34]
+pub fn zeros() -> [u8; 34]
     ensures { λ r. ⌜ r ≡ padded 34 [] ⌝ }
 {
     [0u8; 34]

@@ -1,110 +1,103 @@
 -- A load: 0 and 5 are answered exactly where every step but the remainder passes, and then the answer is that of a fresh check of the held text.
-use Prim.Native.Nat.{ℕ, zero, suc, _+_, _≤_, _<_}
+use Prim.Native.Nat.{ℕ, zero, suc, _+_, _≤_}
 use mathlib.Core.Path.{_≡_, refl, sym, _∙_, ap}
 use mathlib.Core.Bool.{Bool, true, false, cond}
-use mathlib.Core.List.{List, [], _∷_}
+use mathlib.Core.List.{List, [], _∷_, _++_}
 use native.Mathlib.Omega.{arith}
-use borrow.Author.Tests.{eqb-true, le-leb, lt-leb, eq-eqb, ne-eqb}
-use lib.Dec.{T, eqb, leb}
+use borrow.Author.Tests.{le-leb, eq-eqb, ne-eqb}
+use lib.Dec.{T, eqb, ltb}
 use lib.ListN.{length, take, drop, getD}
+use lib.Seq.{take-length, take-all}
 use Rattle.answer.specs.Steps.{must, _andThen_, _orAccept_}
-use Rattle.answer.specs.Table.{valueOf}
+use Rattle.answer.specs.Table.{rowOf}
 use Rattle.answer.specs.declared.Answer.{Answer}
 use Rattle.answer.specs.declared.Answer.the-variants.{Refused}
 use Rattle.answer.specs.declared.Reason.{Reason}
-use Rattle.answer.specs.declared.Reason.the-variants.{NotUtf8, Length, Wrong, Remainder, TooLong, UnknownKind}
+use Rattle.answer.specs.declared.Reason.the-variants.{Length, Wrong, Remainder, UnknownKind}
 use Rattle.answer.specs.declared.Step.{Step}
 use Rattle.answer.specs.declared.Step.the-variants.{Pass, Stop}
 use Rattle.text.specs.Ranges.{within}
 use Rattle.text.specs.Class.{allowed}
 use Rattle.text.specs.Field.{lengthIs, wrongFrom, firstWrong}
 use Rattle.text.specs.declared.Set.{Set}
-use Rattle.text.specs.declared.Set.the-variants.{Digits, Capitals, CapitalsDigits, LettersDigits}
 use Rattle.text.proofs.Ranges.{is-true, within-yes, within-ends}
-use Rattle.utf8.specs.Chars.{validPrefix}
 use Rattle.utf8.proofs.Ascii.{ascii-prefix}
 use Rattle.checkdigit.specs.Verdict.{remainderStep}
-use Rattle.iban.specs.Left.{Left, left}
-use Rattle.iban.specs.Iban.{each, isAscii, countStep, classSteps, ibanCharacters, ibanAnswer}
-use Rattle.iban.specs.Held.{heldBy, heldOf}
-use Rattle.iban.specs.declared.Held.{Held}
+use Rattle.iban.specs.Electronic.{Character, placeIn}
+use Rattle.iban.specs.Iban.{allAscii, asciiStep, countStep, classSteps, reasonIn, stepIn, ibanCharacters, ibanAnswer}
+use Rattle.iban.specs.Format.{padded, formatBy, formatOf}
+use Rattle.iban.specs.declared.Electronic.{Electronic}
+use Rattle.iban.proofs.Padded.{padded-front}
+use Rattle.iban.proofs.Formats.{format-step}
 use Rattle.lei.specs.Lei.{leiCharacters, leiAnswer}
-use Rattle.field.specs.Field.{fieldLimit, admission, ruleOf, answered, checkField}
+use Rattle.field.specs.Field.{admission, ruleOf, answered, checkField}
 use Rattle.sheet.specs.Sheets.{sheetKind, heldText, characters, remainderBy, sheetOf}
-use Rattle.sheet.specs.Load.{refusal, summed, writtenOf, loadOf}
+use Rattle.sheet.specs.Load.{refusal, summed, loadOf}
+use Rattle.sheet.specs.Inner.{sheetWith}
 use Rattle.sheet.specs.declared.Sheet.{Sheet}
 use Rattle.sheet.specs.declared.Repaired.{Repaired}
 use Rattle.sheet.proofs.Plain.{plain-ascii}
-use Rattle.sheet.proofs.Fits.{Fit, by-kind, passes-both, fit-plain, fit-few, fit-passes, held-fit, held-plain}
+use Rattle.sheet.proofs.Fits.{Fit, by-kind, passes-both, fit-few, held-fit, held-plain}
 
 -- a step that never answers 0 or 5
-Quiet : Step → Type 0
-Quiet Pass = Unit {0}
-Quiet (Stop r k) = summed (Refused r k) ≡ false
+record Quiet (x : Step) : Type 0 where
+  silent : (r : Reason) (k : ℕ) → x ≡ Stop r k → summed (Refused r k) ≡ false
+
+quiet-pass : Quiet Pass
+quiet-pass = record { silent = λ r k e. let z : _≡_ {A = ℕ} 0 1 = cc in absurd (omega arith) }
+
+quiet-at : (r : Reason) (k : ℕ) → summed (Refused r k) ≡ false → Quiet (Stop r k)
+quiet-at r k q = record { silent = λ r′ k′ e. let f : Refused r k ≡ Refused r′ k′ = cc in rw (← f) q }
+
+quiet-must : (t : Bool) (r : Reason) (k : ℕ) → summed (Refused r k) ≡ false → Quiet (must t r k)
+quiet-must true r k q = quiet-pass
+quiet-must false r k q = quiet-at r k q
 
 quiet-then : (a b : Step) → Quiet a → Quiet b → Quiet (a andThen b)
-unfolding Quiet _andThen_
+unfolding _andThen_
 quiet-then Pass b p q = q
 quiet-then (Stop r k) b p q = p
 
-quiet-must : (t : Bool) (r : Reason) (k : ℕ) → summed (Refused r k) ≡ false → Quiet (must t r k)
-unfolding Quiet
-quiet-must true r k e = tt
-quiet-must false r k e = e
-
-quiet-each : (good : ℕ → Bool) (l : List Left) (k : ℕ) → Quiet (each good l k)
-unfolding Quiet each summed
-quiet-each good [] k = tt
-quiet-each good (c ∷ l) k =
-    quiet-then (must (good (c .scalar)) (Wrong (c .place)) k) (each good l k) (quiet-must (good (c .scalar)) (Wrong (c .place)) k refl) (quiet-each good l k)
-
 quiet-wrong : (set : Set) (s : List ℕ) (i n k : ℕ) → Quiet (wrongFrom set s i n k)
-unfolding Quiet wrongFrom summed
-quiet-wrong set s i zero k = tt
-quiet-wrong set s i (suc n) k =
-    quiet-then (must (allowed set (getD s i 0)) (Wrong i) k) (wrongFrom set s (i + 1) n k) (quiet-must (allowed set (getD s i 0)) (Wrong i) k refl)
-    (quiet-wrong set s (i + 1) n k)
+unfolding wrongFrom summed
+quiet-wrong set s i zero k = quiet-pass
+quiet-wrong set s i (suc n) k = quiet-then _ _ (quiet-must (allowed set (getD s i 0)) (Wrong i) k refl) (quiet-wrong set s (i + 1) n k)
 
-quiet-iban : (s : List ℕ) → Quiet (ibanCharacters s)
-unfolding ibanCharacters countStep classSteps summed
-quiet-iban s =
-    let l = left s in
-    let a = each isAscii l 101 in
-    let n = must (within 5 34 (length l)) (Length 0 (length l)) 102 in
-    let x = each (allowed Capitals) (take 2 l) 103 in
-    let y = each (allowed Digits) (take 2 (drop 2 l)) 104 in
-    let z = each (allowed LettersDigits) (drop 4 l) 105 in
-    quiet-then (a andThen n) (x andThen y andThen z)
-    (quiet-then a n (quiet-each isAscii l 101) (quiet-must (within 5 34 (length l)) (Length 0 (length l)) 102 refl))
-    (quiet-then (x andThen y) z
-    (quiet-then x y (quiet-each (allowed Capitals) (take 2 l) 103) (quiet-each (allowed Digits) (take 2 (drop 2 l)) 104))
-    (quiet-each (allowed LettersDigits) (drop 4 l) 105))
+quiet-first : (set : Set) (s : List ℕ) (from to k : ℕ) → Quiet (firstWrong set s from to k)
+unfolding firstWrong
+quiet-first set s from to k = quiet-wrong set s from _ k
 
-quiet-lei : (s : List ℕ) → Quiet (leiCharacters s)
-unfolding leiCharacters lengthIs firstWrong summed
-quiet-lei s =
-    let a = must (eqb (length s) 20) (Length 0 (length s)) 201 in
-    let b = wrongFrom CapitalsDigits s 0 20 202 in
-    quiet-then (a andThen b) (wrongFrom Digits s 18 2 203)
-    (quiet-then a b (quiet-must (eqb (length s) 20) (Length 0 (length s)) 201 refl) (quiet-wrong CapitalsDigits s 0 20 202))
-    (quiet-wrong Digits s 18 2 203)
+quiet-length : (n : ℕ) (s : List ℕ) (k : ℕ) → Quiet (lengthIs n s k)
+unfolding lengthIs summed
+quiet-length n s k = quiet-must (eqb (length s) n) (Length 0 (length s)) k refl
+
+quiet-ascii : (l : List Character) → Quiet (allAscii l)
+unfolding allAscii summed
+quiet-ascii [] = quiet-pass
+quiet-ascii (c ∷ l) = quiet-then _ _ (quiet-must (ltb (c .scalar) 128) (Wrong (c .place)) 101 refl) (quiet-ascii l)
+
+quiet-in : (l : List Character) (x : Step) → Quiet x → Quiet (stepIn l x)
+unfolding reasonIn summed
+quiet-in l Pass q = quiet-pass
+quiet-in l (Stop r k) q = go (eqb (rowOf r .number) 3)
+  where
+    go : (b : Bool) → Quiet (Stop (cond b (Wrong (placeIn (rowOf r .place) l)) r) k)
+    go true = quiet-at (Wrong (placeIn (rowOf r .place) l)) k refl
+    go false = q
+
+ruleset quiets = (quiet-must, quiet-then, quiet-first, quiet-length, quiet-ascii, quiet-in)
 
 quiet-characters : (kind : ℕ) (s : List ℕ) → Quiet (characters kind s)
-unfolding characters
+unfolding characters ibanCharacters asciiStep countStep classSteps leiCharacters summed
 quiet-characters kind s = go (eqb kind 1)
   where
     go : (b : Bool) → Quiet (cond b (ibanCharacters s) (leiCharacters s))
-    go true = quiet-iban s
-    go false = quiet-lei s
+    go true = search quiets depth 9
+    go false = search quiets depth 9
 
 quiet-admission : (kind : ℕ) (s : List ℕ) → Quiet (admission kind s)
 unfolding admission summed
-quiet-admission kind s =
-    let a = must (within 1 10 kind) (UnknownKind kind) 1 in
-    let b = must (leb (length s) fieldLimit) (TooLong (length s)) 2 in
-    quiet-then (a andThen b) (must (eqb (validPrefix s) (length s)) (NotUtf8 (validPrefix s)) 3)
-    (quiet-then a b (quiet-must (within 1 10 kind) (UnknownKind kind) 1 refl) (quiet-must (leb (length s) fieldLimit) (TooLong (length s)) 2 refl))
-    (quiet-must (eqb (validPrefix s) (length s)) (NotUtf8 (validPrefix s)) 3 refl)
+quiet-admission kind s = search quiets depth 9
 
 -- the last step of a kind's rule, on the held text
 abbrev pub lastCheck : ℕ → ℕ
@@ -122,6 +115,10 @@ lei-rule : (s : List ℕ) → ruleOf 2 s ≡ characters 2 s andThen lastStep 2 (
 unfolding ruleOf leiAnswer characters heldText remainderBy
 lei-rule s = refl
 
+-- field knows the kinds of a sheet
+known-iban-lei : (kind : ℕ) → T (sheetKind kind) → must (within 1 10 kind) (UnknownKind kind) 1 ≡ Pass
+known-iban-lei kind t = let w = within-ends 1 2 kind t in rw (within-yes 1 10 kind (w .0) (omega arith))
+
 check-is : (kind : ℕ) (s : List ℕ) → T (sheetKind kind)
     → checkField kind s ≡ answered (admission kind s) (characters kind s andThen lastStep kind (heldText kind s) orAccept 1)
 unfolding checkField
@@ -133,75 +130,76 @@ by-remainder : (kind : ℕ) (s : List ℕ) → T (sheetKind kind) → admission 
 unfolding _andThen_
 by-remainder kind s t a c = check-is kind s t ∙ rw (a, c)
 
--- .. with 0 or 5, and the remainder as its number
-pub remainder-answers : (r k : ℕ) → (summed (remainderStep r k orAccept 1) ≡ true) × (valueOf (remainderStep r k orAccept 1) ≡ r)
+-- .. with 0 or 5
+pub remainder-summed : (r k : ℕ) → summed (remainderStep r k orAccept 1) ≡ true
 unfolding remainderStep _orAccept_ summed
-remainder-answers r k = go (eqb r 1) refl
+remainder-summed r k = go (eqb r 1)
   where
-    go : (b : Bool) → eqb r 1 ≡ b → (summed (must b (Remainder r) k orAccept 1) ≡ true) × (valueOf (must b (Remainder r) k orAccept 1) ≡ r)
-    go true e = (refl, sym (eqb-true r 1 e))
-    go false e = (refl, refl)
+    go : (b : Bool) → summed (must b (Remainder r) k orAccept 1) ≡ true
+    go true = refl
+    go false = refl
 
 pub passes-summed : (kind : ℕ) (s : List ℕ) → T (sheetKind kind) → admission kind s ≡ Pass → characters kind s ≡ Pass → summed (checkField kind s) ≡ true
-passes-summed kind s t a c = ap summed (by-remainder kind s t a c) ∙ remainder-answers (remainderBy kind (heldText kind s)) (lastCheck kind) .0
+passes-summed kind s t a c = ap summed (by-remainder kind s t a c) ∙ remainder-summed (remainderBy kind (heldText kind s)) (lastCheck kind)
 
 -- 0 or 5 means that all of these passed
 pub summed-passes : (kind : ℕ) (s : List ℕ) → T (sheetKind kind) → summed (checkField kind s) ≡ true → (admission kind s ≡ Pass) × (characters kind s ≡ Pass)
-unfolding Quiet _andThen_ _orAccept_
+unfolding _andThen_ _orAccept_
 summed-passes kind s t e =
     go (admission kind s) (characters kind s) (quiet-admission kind s) (quiet-characters kind s) (ap summed (sym (check-is kind s t)) ∙ e)
   where
     go : (x y : Step) → Quiet x → Quiet y → summed (answered x (y andThen lastStep kind (heldText kind s) orAccept 1)) ≡ true → (x ≡ Pass) × (y ≡ Pass)
     go Pass Pass p q e = (refl, refl)
-    go Pass (Stop r k) p q e = let z : _≡_ {A = ℕ} 0 1 = cc in absurd (omega arith)
-    go (Stop r k) y p q e = let z : _≡_ {A = ℕ} 0 1 = cc in absurd (omega arith)
+    go Pass (Stop r k) p q e = let z : _≡_ {A = ℕ} 0 1 = cc (q .silent r k refl) in absurd (omega arith)
+    go (Stop r k) y p q e = let z : _≡_ {A = ℕ} 0 1 = cc (p .silent r k refl) in absurd (omega arith)
 
 -- a text that fits is admitted, and a fresh check of it answers by its remainder
 module _ (kind : ℕ) (t : List ℕ) (f : Fit kind t) where
   fit-admitted : admission kind t ≡ Pass
   unfolding admission
   fit-admitted =
-      let w = within-ends 1 2 kind (f .known) in
       let l = fit-few kind t f in
-      let a = must (within 1 10 kind) (UnknownKind kind) 1 in
-      let b = must (leb (length t) fieldLimit) (TooLong (length t)) 2 in
-      let whole : validPrefix t ≡ length t = ascii-prefix t (plain-ascii t (fit-plain kind t f)) in
-      passes-both (a andThen b) (must (eqb (validPrefix t) (length t)) (NotUtf8 (validPrefix t)) 3)
-      (passes-both a b (rw (within-yes 1 10 kind (w .0) (omega arith))) (rw (le-leb (length t) 1024 (omega arith))))
-      (rw (eq-eqb (validPrefix t) (length t) whole))
+      passes-both _ _
+      (passes-both _ _ (known-iban-lei kind (f .known)) (rw (le-leb (length t) 1024 (omega arith))))
+      (rw (eq-eqb _ (length t) (ascii-prefix t (plain-ascii t (f .plain)))))
 
   pub fresh : checkField kind t ≡ lastStep kind t orAccept 1
   fresh =
-      by-remainder kind t (f .known) fit-admitted (fit-passes kind t f)
-      ∙ ap (λ (u : List ℕ). lastStep kind u orAccept 1) (held-plain kind t (fit-plain kind t f))
+      by-remainder kind t (f .known) fit-admitted (f .passes)
+      ∙ ap (λ (u : List ℕ). lastStep kind u orAccept 1) (held-plain kind t (f .plain))
 
   pub fresh-summed : summed (checkField kind t) ≡ true
-  fresh-summed = ap summed fresh ∙ remainder-answers (remainderBy kind t) (lastCheck kind) .0
+  fresh-summed = ap summed fresh ∙ remainder-summed (remainderBy kind t) (lastCheck kind)
 
-  pub fresh-value : valueOf (checkField kind t) ≡ remainderBy kind t
-  fresh-value = ap valueOf fresh ∙ remainder-answers (remainderBy kind t) (lastCheck kind) .1
+-- the parts of the sheet that holds a text
+pub with-is : (kind : ℕ) (t : List ℕ) → length t ≤ 34 → sheetWith kind (length t) (padded 34 t) ≡ sheetOf kind t
+unfolding sheetOf
+with-is kind t h = rw (padded-front 34 t h)
 
--- what is held of a field: an IBAN's text, or all of an LEI
-pub hold-iban : (kind : ℕ) (s : List ℕ) → kind ≡ 1 → heldOf s ≡ heldBy (characters kind s) (heldText kind s)
-unfolding heldOf characters heldText
-hold-iban kind s e = rw (eq-eqb kind 1 e)
+-- an IBAN's, from its electronic format, and an LEI's, from the field
+pub iban-characters : (kind : ℕ) (s : List ℕ) (e : Electronic) → kind ≡ 1 → e ≡ formatOf s → e .step ≡ characters kind s
+unfolding characters formatOf
+iban-characters kind s e q o = rw (o, eq-eqb kind 1 q) (format-step (ibanCharacters s) _)
 
-pub hold-lei : (kind : ℕ) (s : List ℕ) (x : Step) → (kind ≡ 1 → ⊥) → x ≡ leiCharacters s → heldBy x s ≡ heldBy (characters kind s) (heldText kind s)
+pub lei-characters : (kind : ℕ) (s : List ℕ) → (kind ≡ 1 → ⊥) → leiCharacters s ≡ characters kind s
+unfolding characters
+lei-characters kind s n = rw (ne-eqb kind 1 n)
+
+pub iban-sheet : (kind : ℕ) (s : List ℕ) (e : Electronic) → kind ≡ 1 → e ≡ formatOf s → characters kind s ≡ Pass
+    → sheetWith kind (e .count) (e .text) ≡ sheetOf kind (heldText kind s)
+unfolding characters heldText formatOf formatBy
+iban-sheet kind s e q o p =
+    let one : ibanCharacters s ≡ Pass = rw (eq-eqb kind 1 q) at p in
+    let fit = held-fit 1 s tt one in
+    rw (o, one, eq-eqb kind 1 q) (with-is kind (heldText 1 s) (fit-few 1 (heldText 1 s) fit .1))
+
+pub lei-sheet : (kind : ℕ) (s : List ℕ) → (kind ≡ 1 → ⊥) → characters kind s ≡ Pass
+    → sheetWith kind (length s) (padded 34 (take 34 s)) ≡ sheetOf kind (heldText kind s)
 unfolding characters heldText
-hold-lei kind s x n e = rw (ne-eqb kind 1 n, e)
-
--- what a load that was not refused took
-module _ (kind : ℕ) (s : List ℕ) (k : T (sheetKind kind)) (e : summed (checkField kind s) ≡ true) where
-  pub taken-fit : Fit kind (heldText kind s)
-  taken-fit = held-fit kind s k (summed-passes kind s k e .1)
-
-  pub taken-check : checkField kind s ≡ checkField kind (heldText kind s)
-  taken-check =
-      let p = summed-passes kind s k e in
-      by-remainder kind s k (p .0) (p .1) ∙ sym (fresh kind (heldText kind s) taken-fit)
-
-  pub taken-value : valueOf (checkField kind s) ≡ remainderBy kind (heldText kind s)
-  taken-value = ap valueOf taken-check ∙ fresh-value kind (heldText kind s) taken-fit
+lei-sheet kind s n p =
+    let two : leiCharacters s ≡ Pass = rw (ne-eqb kind 1 n) at p in
+    let few = fit-few 2 s (held-fit 2 s tt two) .1 in
+    rw (take-all 34 s few, ne-eqb kind 1 n) (with-is kind s few)
 
 -- the sheet of a text, with the answer of a fresh check of it
 abbrev pub holding : ℕ → List ℕ → Repaired
@@ -222,43 +220,27 @@ module _ (kind : ℕ) (s : List ℕ) (old : Sheet) where
   load-taken e f = rw (e, f)
 
   -- the code's cases
-  pub load-low : kind < 1 → refusal old (UnknownKind kind) 24 ≡ loadOf kind s old
-  load-low h = sym (load-other (rw (lt-leb 1 kind h)))
-
-  pub load-high : 1 ≤ kind → 2 < kind → refusal old (UnknownKind kind) 24 ≡ loadOf kind s old
-  load-high l h = sym (load-other (rw (le-leb 1 kind l, lt-leb kind 2 h)))
-
-  pub load-written : (h : Held) (a : Answer) (r : ℕ) → 1 ≤ kind → kind ≤ 2 → a ≡ checkField kind s → summed a ≡ true → h ≡ heldBy (characters kind s) (heldText kind s)
-      → r ≡ valueOf a → writtenOf kind (h .count) r (h .text) a ≡ loadOf kind s old
-  unfolding sheetOf heldBy
-  load-written h a r l u e f g v =
-      let known = within-yes 1 2 kind l u in
-      let k : T (sheetKind kind) = rw known tt in
+  pub load-written : (a : Answer) (new : Sheet) → sheetKind kind ≡ true → a ≡ checkField kind s → summed a ≡ true
+      → (characters kind s ≡ Pass → new ≡ sheetOf kind (heldText kind s)) → record { answer = a; sheet = new } ≡ loadOf kind s old
+  load-written a new known e f g =
       let taken : summed (checkField kind s) ≡ true = rw (← e) f in
-      let passed = summed-passes kind s k taken .1 in
-      rw (v, g, passed, e, taken-value kind s k taken) (sym (load-taken known taken))
+      rw (e, g (summed-passes kind s (rw known tt) taken .1)) (sym (load-taken known taken))
 
-  pub load-kept : (a : Answer) → 1 ≤ kind → kind ≤ 2 → a ≡ checkField kind s → summed a ≡ false → record { answer = a; sheet = old } ≡ loadOf kind s old
-  load-kept a l u e f = rw e (sym (load-refused (within-yes 1 2 kind l u) (rw (← e) f)))
+  pub load-kept : (a : Answer) → sheetKind kind ≡ true → a ≡ checkField kind s → summed a ≡ false → record { answer = a; sheet = old } ≡ loadOf kind s old
+  load-kept a known e f = rw e (sym (load-refused known (rw (← e) f)))
 
-  -- an answer of 0 or 5 says that the field was taken, and then sheet and answer are those of the held text
-  pub record Took : Type 0 where
-    pub fit : Fit kind (heldText kind s)
-    pub is : loadOf kind s old ≡ holding kind (heldText kind s)
+-- a load that was not refused took a text that fits
+pub taken-fit : (kind : ℕ) (s : List ℕ) → T (sheetKind kind) → summed (checkField kind s) ≡ true → Fit kind (heldText kind s)
+taken-fit kind s k e = held-fit kind s k (summed-passes kind s k e .1)
 
-  pub took : summed (loadOf kind s old .answer) ≡ true → Took
-  unfolding summed
-  took e = go (sheetKind kind) refl (summed (checkField kind s)) refl
-    where
-      go : (a : Bool) → sheetKind kind ≡ a → (b : Bool) → summed (checkField kind s) ≡ b → Took
-      go false p b q = let z : _≡_ {A = ℕ} 0 1 = cc (ap (λ (r : Repaired). summed (r .answer)) (load-other p)) in absurd (omega arith)
-      go true p false q = let z : _≡_ {A = ℕ} 0 1 = cc (ap (λ (r : Repaired). summed (r .answer)) (load-refused p q)) in absurd (omega arith)
-      go true p true q =
-          let k : T (sheetKind kind) = rw p tt in
-          record { fit = taken-fit kind s k q; is = load-taken p q ∙ rw (taken-check kind s k q) }
+-- .. and answers as a fresh check of that text
+pub taken-check : (kind : ℕ) (s : List ℕ) → T (sheetKind kind) → summed (checkField kind s) ≡ true → checkField kind s ≡ checkField kind (heldText kind s)
+taken-check kind s k e =
+    let p = summed-passes kind s k e in
+    by-remainder kind s k (p .0) (p .1) ∙ sym (fresh kind (heldText kind s) (taken-fit kind s k e))
 
 -- loading a text that fits gives its sheet
 pub load-fit : (kind : ℕ) (t : List ℕ) (old : Sheet) → Fit kind t → loadOf kind t old ≡ holding kind t
 load-fit kind t old f =
     load-taken kind t old (is-true (sheetKind kind) (f .known)) (fresh-summed kind t f)
-    ∙ rw (held-plain kind t (fit-plain kind t f))
+    ∙ rw (held-plain kind t (f .plain))

@@ -1,38 +1,37 @@
--- A text of letters and digits is held as it stands, and its places count the same: no character of it is a blank or takes two bytes.
+-- A text of letters and digits is in electronic format as it stands: none of its characters is a blank, and each is one byte.
 use Prim.Native.Nat.{ℕ, zero, suc, _+_, _<_}
 use mathlib.Core.Path.{_≡_, refl, _∙_, ap}
-use mathlib.Core.Bool.{true, false}
+use mathlib.Core.Bool.{Bool, true, false}
 use mathlib.Core.List.{List, [], _∷_, map}
 use native.Mathlib.Omega.{arith}
-use borrow.Author.Tests.{lt-ltb}
-use lib.Dec.{T}
-use lib.ListN.{length, getD}
+use borrow.Author.Tests.{lt-ltb, eqb-true, eqb-false, eq-eqb}
+use lib.Dec.{T, eqb}
+use lib.ListN.{length, getD, set, length-set}
+use lib.Seq.{getD-set-same, getD-set-other}
 use Rattle.answer.specs.Steps.{_andThen_}
 use Rattle.answer.specs.declared.Step.the-variants.{Pass}
-use Rattle.text.specs.Class.{holds, allowed}
-use Rattle.text.specs.declared.Class.{Class}
-use Rattle.text.specs.declared.Class.the-variants.{Digit, Capital, Small, Other}
-use Rattle.text.specs.declared.Set.{Set}
-use Rattle.text.specs.declared.Set.the-variants.{Digits, Capitals, Letters, CapitalsDigits, LettersDigits}
+use Rattle.text.specs.Class.{allowed}
+use Rattle.text.specs.declared.Set.the-variants.{LettersDigits}
 use Rattle.text.proofs.Classes.{allowed-ends}
 use Rattle.text.proofs.Ranges.{evenly}
 use Rattle.utf8.specs.Chars.{ch, ascii}
 use Rattle.utf8.specs.Space.{spaces, whiteSpace}
-use Rattle.utf8.proofs.Ascii.{below-ascii, ascii-chars}
-use Rattle.iban.specs.Left.{Left, leftFrom, left, textOf, placeIn}
-use Rattle.iban.specs.Iban.{each, isAscii}
-use Rattle.sheet.specs.Sheets.{Plain}
+use Rattle.utf8.proofs.Ascii.{below-ascii, ascii-chars, ascii-prefix}
+use Rattle.iban.specs.Electronic.{Character, electronicFrom, electronic, textOf, electronicText}
+use Rattle.iban.specs.Iban.{allAscii, asciiStep}
 
--- every set of bytes that a rule allows has letters and digits only
-pub wider : (set : Set) (c : Class) → T (holds set c) → T (holds LettersDigits c)
-wider set Digit t = tt
-wider set Capital t = tt
-wider set Small t = tt
-wider Digits Other t = t
-wider Capitals Other t = t
-wider Letters Other t = t
-wider CapitalsDigits Other t = t
-wider LettersDigits Other t = t
+-- a text of letters and digits
+abbrev pub Plain : List ℕ → Type 0
+Plain t = (i : ℕ) → i < length t → T (allowed LettersDigits (getD t i 0))
+
+pub plain-set : (t : List ℕ) (p b : ℕ) → Plain t → T (allowed LettersDigits b) → Plain (set t p b)
+plain-set t p b f a i h = go (eqb i p) refl
+  where
+    go : (x : Bool) → eqb i p ≡ x → T (allowed LettersDigits (getD (set t p b) i 0))
+    go true e =
+        let q : i ≡ p = eqb-true i p e in
+        rw (q, getD-set-same t p b 0 (omega (arith, length-set t p b))) a
+    go false e = rw (getD-set-other t p i b 0 (eqb-false i p e)) (f i (rw (length-set t p b) at h))
 
 below : (b : ℕ) → T (allowed LettersDigits b) → b < 128
 below b t = let e = allowed-ends LettersDigits b t in omega arith
@@ -47,42 +46,34 @@ no-blank : (b : ℕ) → T (allowed LettersDigits b) → whiteSpace b ≡ false
 unfolding whiteSpace
 no-blank b t = let e = allowed-ends LettersDigits b t in evenly [] 48 122 b (λ e. e) (e .0) (e .1) false spaces tt
 
--- the bytes of a text as characters that are left, one by one from a place on
-lefts : ℕ → List ℕ → List Left
-lefts at [] = []
-lefts at (b ∷ t) = record { place = at; scalar = b } ∷ lefts (at + 1) t
+-- the bytes of a text, each a character, from a place on
+singles : ℕ → List ℕ → List Character
+singles at [] = []
+singles at (b ∷ t) = record { place = at; scalar = b } ∷ singles (at + 1) t
 
-left-from : (at : ℕ) (t : List ℕ) → Plain t → leftFrom at (map (λ b. ch b 1) t) ≡ lefts at t
-unfolding leftFrom lefts
-left-from at [] p = refl
-left-from at (b ∷ t) p = rw (no-blank b (p zero (omega arith)), left-from (at + 1) t (rest b t p))
+single-from : (at : ℕ) (t : List ℕ) → Plain t → electronicFrom at (map (λ b. ch b 1) t) ≡ singles at t
+unfolding electronicFrom singles
+single-from at [] p = refl
+single-from at (b ∷ t) p = rw (no-blank b (p zero (omega arith)), single-from (at + 1) t (rest b t p))
 
-lefts-of : (t : List ℕ) → Plain t → left t ≡ lefts 0 t
-unfolding left
-lefts-of t p = rw (ascii-chars t (plain-ascii t p)) (left-from 0 t p)
+single-text : (at : ℕ) (t : List ℕ) → textOf (singles at t) ≡ t
+unfolding textOf singles
+single-text at [] = refl
+single-text at (b ∷ t) = ap (λ (l : List ℕ). b ∷ l) (single-text (at + 1) t)
 
-text-lefts : (at : ℕ) (t : List ℕ) → textOf (lefts at t) ≡ t
-unfolding textOf lefts
-text-lefts at [] = refl
-text-lefts at (b ∷ t) = ap (λ (l : List ℕ). b ∷ l) (text-lefts (at + 1) t)
-
-place-lefts : (at k : ℕ) (t : List ℕ) → k < length t → placeIn k (lefts at t) ≡ at + k
-unfolding placeIn lefts
-place-lefts at k [] h = absurd (omega arith)
-place-lefts at zero (b ∷ t) h = omega arith
-place-lefts at (suc k) (b ∷ t) h = place-lefts (at + 1) k t (omega arith) ∙ omega arith
-
-ascii-lefts : (at : ℕ) (t : List ℕ) → Plain t → each isAscii (lefts at t) 101 ≡ Pass
-unfolding each lefts _andThen_
-ascii-lefts at [] p = refl
-ascii-lefts at (b ∷ t) p = rw (lt-ltb b 128 (below b (p zero (omega arith)))) (ascii-lefts (at + 1) t (rest b t p))
+single-ascii : (at : ℕ) (t : List ℕ) → Plain t → allAscii (singles at t) ≡ Pass
+unfolding allAscii singles _andThen_
+single-ascii at [] p = refl
+single-ascii at (b ∷ t) p = rw (lt-ltb b 128 (below b (p zero (omega arith)))) (single-ascii (at + 1) t (rest b t p))
 
 module _ (t : List ℕ) (p : Plain t) where
-  pub plain-text : textOf (left t) ≡ t
-  plain-text = ap textOf (lefts-of t p) ∙ text-lefts 0 t
+  plain-is : electronic t ≡ singles 0 t
+  unfolding electronic
+  plain-is = rw (ascii-chars t (plain-ascii t p)) (single-from 0 t p)
 
-  pub plain-place : (k : ℕ) → k < length t → placeIn k (left t) ≡ k
-  plain-place k h = ap (placeIn k) (lefts-of t p) ∙ place-lefts 0 k t h ∙ omega arith
+  pub plain-text : electronicText t ≡ t
+  plain-text = ap textOf plain-is ∙ single-text 0 t
 
-  pub plain-stray : each isAscii (left t) 101 ≡ Pass
-  plain-stray = ap (λ (l : List Left). each isAscii l 101) (lefts-of t p) ∙ ascii-lefts 0 t p
+  pub plain-step : asciiStep t ≡ Pass
+  unfolding asciiStep _andThen_
+  plain-step = rw (plain-is, single-ascii 0 t p, ascii-prefix t (plain-ascii t p), eq-eqb (length t) (length t) refl)

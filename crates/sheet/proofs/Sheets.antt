@@ -1,19 +1,18 @@
 -- Sheets: equal in all four parts means equal, the 34 bytes of a held text, and a sheet stands exactly where it holds a text that fits.
-use Prim.Native.Nat.{ℕ, zero, suc, _+_, _≤_, _<_}
+use Prim.Native.Nat.{ℕ, zero, suc, _≤_}
 use mathlib.Core.Path.{_≡_, refl, sym, _∙_, ap}
 use mathlib.Core.Bool.{Bool, true, false, _&&_, cond}
 use mathlib.Core.List.{List, [], _∷_, _++_}
-use native.Mathlib.Numerals.{add-one}
 use native.Mathlib.Omega.{arith}
 use borrow.Author.Tests.{eqb-true, eq-eqb, ne-eqb}
 use lib.Dec.{T, eqb}
-use lib.ListN.{length, take, drop, getD, set, drop-of-length-le}
-use lib.Seq.{drop-cons, take-length}
+use lib.ListN.{length, take, drop, length-take}
+use lib.Seq.{take-length}
 use Rattle.text.specs.Same.{sameText}
-use Rattle.text.proofs.Ranges.{is-true, is-false, within-ends}
+use Rattle.text.proofs.Ranges.{within-ends}
 use Rattle.text.proofs.Same.{same-text, text-same}
-use Rattle.iban.specs.Held.{padded}
-use Rattle.iban.proofs.Holding.{padded-front}
+use Rattle.iban.specs.Format.{padded}
+use Rattle.iban.proofs.Padded.{padded-front}
 use Rattle.field.specs.Field.{checkField}
 use Rattle.sheet.specs.Sheets.{sheetKind, heldText, sheetOf, emptySheet, held, sameSheet}
 use Rattle.sheet.specs.Load.{summed, loadOf, standing}
@@ -46,34 +45,18 @@ pub sheet-same : (a : Sheet) → sameSheet a a ≡ true
 unfolding sameSheet
 sheet-same a = rw (eq-eqb (a .kind) (a .kind) refl, eq-eqb (a .length) (a .length) refl, eq-eqb (a .remainder) (a .remainder) refl) (text-same (a .text))
 
--- the bytes of a held text
-pub padded-past : (n : ℕ) (t : List ℕ) → length t ≤ n → padded n t ≡ t ++ drop (length t) (padded n [])
+-- a text copied over zeros
+padded-past : (n : ℕ) (t : List ℕ) → length t ≤ n → padded n t ≡ t ++ drop (length t) (padded n [])
 unfolding padded
 padded-past zero [] h = refl
 padded-past zero (b ∷ t) h = absurd (omega arith)
 padded-past (suc n) [] h = refl
 padded-past (suc n) (b ∷ t) h = ap (λ (l : List ℕ). b ∷ l) (padded-past n t (omega arith))
 
-pub copied-text : (t zeros out : List ℕ) → zeros ≡ padded 34 [] → length t ≤ 34 → out ≡ take (length t) t ++ drop (length t) zeros → out ≡ padded 34 t
-copied-text t zeros out z h e = e ∙ rw (take-length t, z) (sym (padded-past 34 t h))
-
-pub padded-set : (n : ℕ) (t : List ℕ) (p b : ℕ) → p < length t → set (padded n t) p b ≡ padded n (set t p b)
-unfolding padded
-padded-set n [] p b h = absurd (omega arith)
-padded-set zero (a ∷ t) p b h = zero-cut (set (a ∷ t) p b)
-  where
-    zero-cut : (u : List ℕ) → [] ≡ padded zero u
-    zero-cut u = refl
-padded-set (suc n) (a ∷ t) zero b h = refl
-padded-set (suc n) (a ∷ t) (suc p) b h = ap (λ (l : List ℕ). a ∷ l) (padded-set n t p b (omega arith))
-
-pub padded-get : (n : ℕ) (t : List ℕ) (p : ℕ) → p < n → getD (padded n t) p 0 ≡ getD t p 0
-unfolding padded
-padded-get zero t p h = absurd (omega arith)
-padded-get (suc n) [] zero h = refl
-padded-get (suc n) [] (suc p) h = padded-get n [] p (omega arith)
-padded-get (suc n) (a ∷ t) zero h = refl
-padded-get (suc n) (a ∷ t) (suc p) h = padded-get n t p (omega arith)
+pub copied-text : (t u zeros out : List ℕ) → zeros ≡ padded 34 [] → u ≡ take 34 t → out ≡ take (length u) u ++ drop (length u) zeros → out ≡ padded 34 (take 34 t)
+copied-text t u zeros out z f e =
+    let few : length u ≤ 34 = omega (arith, ap length f, length-take 34 t) in
+    e ∙ rw (take-length u, z) (sym (padded-past 34 u few)) ∙ ap (padded 34) f
 
 pub held-of : (kind : ℕ) (t : List ℕ) → length t ≤ 34 → held (sheetOf kind t) ≡ t
 unfolding sheetOf
@@ -140,13 +123,10 @@ stands s o =
     let own : loadOf (s .kind) (held s) emptySheet .sheet ≡ s = ap (λ (x : Repaired). x .sheet) (load-fit (s .kind) (held s) emptySheet (o .fit)) ∙ sym (o .is) in
     rw (not-empty s (o .fit .known), own) (sheet-same s)
 
--- the tests of the code, in their order
+-- the two tests of the code
 pub empty-falls : (s : Sheet) → sameSheet s emptySheet ≡ true → standing s ≡ false
 unfolding standing
 empty-falls s e = rw e
-
-pub long-falls : (s : Sheet) → 34 < s .length → standing s ≡ false
-long-falls s h = is-false (standing s) (λ t. let n = stood-few s (stood s (is-true (standing s) t)) in omega arith)
 
 pub by-own : (s : Sheet) → sameSheet s emptySheet ≡ false → standing s ≡ sameSheet (loadOf (s .kind) (held s) emptySheet .sheet) s
 unfolding standing

@@ -2,4 +2,4 @@
 pub mod Sheets
 pub mod Load
 pub mod Repairs
-pub mod Calls
+pub mod Inner

@@ -22,10 +22,6 @@ refusal s r k = record { answer = Refused r k; sheet = s }
 unfoldable pub summed : Answer → Bool
 summed a = eqb (numberOf a) 0 || eqb (numberOf a) 5
 
--- an answer, and a sheet of these parts
-abbrev pub writtenOf : ℕ → ℕ → ℕ → List ℕ → Answer → Repaired
-writtenOf kind n r text a = record { answer = a; sheet = record { kind = kind; length = n; remainder = r; text = text } }
-
 unfoldable pub loadOf : ℕ → List ℕ → Sheet → Repaired
 loadOf kind s old =
     cond (sheetKind kind)

@@ -17,14 +17,10 @@ use Rattle.checkdigit.specs.Fill.{checkDigits, stamped}
 use Rattle.field.specs.Field.{checkField}
 use Rattle.sheet.specs.Sheets.{characters, remainderBy, sheetOf, held}
 use Rattle.sheet.specs.Load.{refusal, standing}
+use Rattle.sheet.specs.declared.Request.{Request}
+use Rattle.sheet.specs.declared.Request.the-variants.{Replace, Exchange, Fill}
 use Rattle.sheet.specs.declared.Sheet.{Sheet}
 use Rattle.sheet.specs.declared.Repaired.{Repaired}
-
--- a byte at a place; the characters of two places; the check digits
-pub data Request : Type 0 where
-  Replace : ℕ → ℕ → Request
-  Exchange : ℕ → ℕ → Request
-  Fill : Request
 
 -- the check digits' first place: characters 3 and 4 of an IBAN, the last two of an LEI
 abbrev pub digitsPlace : ℕ → ℕ
@@ -56,13 +52,15 @@ unfit (Stop r k) = Stop (Unfit (rowOf r .place)) 23
 unfoldable pub textStep : ℕ → List ℕ → Step
 textStep kind t = unfit (characters kind t)
 
+-- what a request gives is tested first, against the held text's length: its places and its byte
+unfoldable pub givenSteps : ℕ → Request → Step
+givenSteps length (Replace place byte) = placeStep length place andThen byteStep place byte
+givenSteps length (Exchange i j) = placeStep length i andThen placeStep length j
+givenSteps length Fill = Pass
+
 -- the refusals that a text can give to a request
 unfoldable pub requestSteps : ℕ → List ℕ → Request → Step
-requestSteps kind t (Replace place byte) =
-    placeStep (length t) place andThen byteStep place byte andThen textStep kind (set t place byte)
-requestSteps kind t (Exchange i j) =
-    placeStep (length t) i andThen placeStep (length t) j andThen textStep kind (exchanged t i j)
-requestSteps kind t Fill = Pass
+requestSteps kind t q = givenSteps (length t) q andThen textStep kind (asked kind t q)
 
 -- 20: the sheet is empty or is not one that loading its own text would give
 unfoldable pub sheetStep : Sheet → Step

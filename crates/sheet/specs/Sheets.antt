@@ -1,20 +1,17 @@
 -- SCOPE, "The repair sheet": "The held text of at most 34 characters goes in and comes back by value, with kind 1 or 2, length and
 -- remainder. .. The empty sheet is zero throughout, and bytes past the length are always zero."
-use Prim.Native.Nat.{ℕ, _≤_, _<_}
-use mathlib.Core.Path.{_≡_}
-use mathlib.Core.Bool.{Bool, true, false, _&&_, cond}
-use mathlib.Core.List.{List, [], _∷_}
-use lib.Dec.{T, eqb}
-use lib.ListN.{length, take, getD}
+use Prim.Native.Nat.{ℕ}
+use mathlib.Core.Bool.{Bool, _&&_, cond}
+use mathlib.Core.List.{List, []}
+use lib.Dec.{eqb}
+use lib.ListN.{length, take}
 use Rattle.answer.specs.declared.Step.{Step}
 use Rattle.text.specs.Ranges.{within}
 use Rattle.text.specs.Same.{sameText}
-use Rattle.text.specs.Class.{allowed}
-use Rattle.text.specs.declared.Set.the-variants.{LettersDigits}
 use Rattle.checkdigit.specs.Sum.{remainderOf, ibanRemainder}
-use Rattle.iban.specs.Left.{left, textOf}
+use Rattle.iban.specs.Electronic.{electronicText}
 use Rattle.iban.specs.Iban.{ibanCharacters}
-use Rattle.iban.specs.Held.{padded}
+use Rattle.iban.specs.Format.{padded}
 use Rattle.lei.specs.Lei.{leiCharacters}
 use Rattle.sheet.specs.declared.Sheet.{Sheet}
 
@@ -22,9 +19,9 @@ use Rattle.sheet.specs.declared.Sheet.{Sheet}
 abbrev pub sheetKind : ℕ → Bool
 sheetKind kind = within 1 2 kind
 
--- "an IBAN is held without its blanks", an LEI as it stands
+-- "an IBAN is held without its blanks", in electronic format; an LEI as it stands
 unfoldable pub heldText : ℕ → List ℕ → List ℕ
-heldText kind s = cond (eqb kind 1) (textOf (left s)) s
+heldText kind s = cond (eqb kind 1) (electronicText s) s
 
 -- every step of the kind's rule but the remainder
 unfoldable pub characters : ℕ → List ℕ → Step
@@ -52,14 +49,3 @@ sameSheet a b =
     && (eqb (a .length) (b .length)
     && (eqb (a .remainder) (b .remainder)
     && sameText (a .text) (b .text)))
-
--- a text of letters and digits
-abbrev pub Plain : List ℕ → Type 0
-Plain t = (i : ℕ) → i < length t → T (allowed LettersDigits (getD t i 0))
-
--- what a sheet's 34 bytes are after a repair, before the character steps: n letters and digits, and zeros past them
-pub record Written (kind n : ℕ) (text : List ℕ) : Type 0 where
-  pub known : T (sheetKind kind)
-  pub room : n ≤ 34
-  pub past : text ≡ padded 34 (take n text)
-  pub plain : Plain (take n text)

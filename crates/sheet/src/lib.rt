@@ -1,36 +1,19 @@
 // The repair sheet: an IBAN or an LEI held by value, with the repairs of single characters and of the check digits.
 ghost use mathlib.Core.Path.{_≡_};
-ghost use mathlib.Core.List.{[]};
-ghost use Prim.Native.Nat.{_<_, _≤_};
-ghost use lib.ListN.{length, take, set};
+ghost use lib.ListN.{take, set};
 ghost use Rattle.answer.specs.declared.Reason.{Reason};
+ghost use Rattle.answer.specs.declared.Step.{Step};
 ghost use Rattle.text.specs.Same.{sameText};
 ghost use Rattle.checkdigit.specs.Sum.{exchanged};
 ghost use Rattle.checkdigit.specs.Fill.{stamped};
-ghost use Rattle.iban.specs.Held.{padded, heldBy};
-ghost use Rattle.sheet.specs.Sheets.{
-  heldText,
-  characters,
-  remainderBy,
-  emptySheet,
-  sameSheet,
-  Written,
-};
-ghost use Rattle.sheet.specs.Load.{refusal, summed, writtenOf, loadOf, standing};
-ghost use Rattle.sheet.specs.Repairs.{
-  digitsPlace,
-  placeStep,
-  byteStep,
-  textStep,
-  sheetStep,
-  repairBy,
-  repairOf,
-};
-ghost use Rattle.sheet.specs.Repairs.Request.{Replace, Exchange, Fill};
+ghost use Rattle.iban.specs.Format.{padded};
+ghost use Rattle.sheet.specs.Sheets.{sheetKind, heldText, characters, remainderBy, sheetOf, emptySheet, sameSheet};
+ghost use Rattle.sheet.specs.Load.{refusal, summed, loadOf, standing};
+ghost use Rattle.sheet.specs.Repairs.{digitsPlace, placeStep, byteStep, textStep, givenSteps, sheetStep, repairOf};
+ghost use Rattle.sheet.specs.Inner.{sheetWith, filledBytes, askedBytes, renewedBy};
 use answer::Answer;
 use answer::Reason;
 use answer::Step;
-use iban::Held;
 use text::Set;
 
 // The text stands in the first `length` bytes, and those past it are zero.
@@ -41,15 +24,16 @@ pub struct Sheet {
     pub text: [u8; 34],
 }
 
+// A byte at a place; the characters of two places; the check digits.
+pub enum Request {
+    Replace { place: usize, byte: u8 },
+    Exchange { i: usize, j: usize },
+    Fill,
+}
+
 pub struct Repaired {
     pub answer: Answer,
     pub sheet: Sheet,
-}
-
-fn zeros() -> [u8; 34]
-    ensures { λ r. ⌜ r ≡ padded 34 [] ⌝ }
-{
-    [0u8; 34]
 }
 
 pub fn empty() -> Sheet
@@ -59,10 +43,11 @@ pub fn empty() -> Sheet
         kind: 0,
         length: 0,
         remainder: 0,
-        text: zeros(),
+        text: iban::zeros(),
     }
 }
 
+// A refused call returns the sheet that went in.
 fn refused(old: Sheet, reason: Reason, check: u32) -> Repaired
     ensures { λ r. ⌜ r ≡ refusal old reason check ⌝ }
 {
@@ -72,34 +57,76 @@ fn refused(old: Sheet, reason: Reason, check: u32) -> Repaired
     }
 }
 
-fn copied(t: &[u8]) -> [u8; 34]
-    requires { ⌜ length (now t) ≤ 34 ⌝ }
-    ensures { λ r. ⌜ r ≡ padded 34 (now (t .entry)) ⌝ }
+// The first n bytes, and all of them where there are fewer.
+fn front(t: &[u8], n: usize) -> &[u8]
+    ensures { λ r. ⌜ now r ≡ take n (now (t .entry)) ⌝ }
 {
-    let mut text = zeros();
-    bytes::copy(t, &mut text);
+    if n <= t.len() {
+        return &t[0..n];
+    }
+    t
+}
+
+fn is_sheet_kind(kind: u16) -> bool
+    ensures { λ r. ⌜ r ≡ sheetKind kind ⌝ }
+{
+    if kind < 1 {
+        return false;
+    }
+    kind <= 2
+}
+
+// Every step of the kind's rule but the remainder.
+fn characters(kind: u16, t: &[u8]) -> Step
+    ensures { λ r. ⌜ r ≡ characters kind (now (t .entry)) ⌝ }
+{
+    if kind == 1 {
+        let e = iban::electronic_format(t);
+        return e.step;
+    }
+    lei::characters(t)
+}
+
+fn remainder(kind: u16, t: &[u8]) -> u64
+    ensures { λ r. ⌜ r ≡ remainderBy kind (now (t .entry)) ⌝ }
+{
+    if kind == 1 {
+        return checkdigit::iban_remainder(t);
+    }
+    checkdigit::remainder(t)
+}
+
+// The first 34 bytes of a text, and zeros past its last.
+fn copied(t: &[u8]) -> [u8; 34]
+    ensures { λ r. ⌜ r ≡ padded 34 (take 34 (now (t .entry))) ⌝ }
+{
+    let mut text = iban::zeros();
+    bytes::copy(front(t, 34), &mut text);
     text
 }
 
-// Every step but the remainder, and the held text where they pass.
-fn hold(kind: u16, value: &[u8]) -> Held
-    ensures { λ r. ⌜ r ≡ heldBy (characters kind (now (value .entry))) (heldText kind (now (value .entry))) ⌝ }
+// A sheet of these parts; its remainder is that of its text.
+fn sheet_with(kind: u16, length: usize, text: [u8; 34]) -> Sheet
+    ensures { λ r. ⌜ r ≡ sheetWith kind length text ⌝ }
+{
+    Sheet {
+        kind,
+        length,
+        remainder: remainder(kind, front(&text, length)),
+        text,
+    }
+}
+
+// The sheet that holds a field, where the field passes every step but the remainder.
+fn sheet_of(kind: u16, field: &[u8]) -> Sheet
+    ensures { λ r. ⌜ (characters kind (now (field .entry)) ≡ Step.Pass → r ≡ sheetOf kind (heldText kind (now (field .entry)))) ⌝ }
 {
     if kind == 1 {
-        return iban::hold(value);
+        let e = iban::electronic_format(field);
+        let text = e.text;
+        return sheet_with(kind, e.count, text);
     }
-    match lei::characters(value) {
-        Step::Pass => Held {
-            step: Step::Pass,
-            count: value.len(),
-            text: copied(value),
-        },
-        Step::Stop(reason, check) => Held {
-            step: Step::Stop(reason, check),
-            count: 0,
-            text: zeros(),
-        },
-    }
+    sheet_with(kind, field.len(), copied(field))
 }
 
 // The answer is 0 or 5: every step but the remainder passed.
@@ -113,44 +140,20 @@ fn is_summed(answer: Answer) -> bool
     number == 5
 }
 
-fn written(kind: u16, length: usize, remainder: u64, text: [u8; 34], answer: Answer) -> Repaired
-    ensures { λ r. ⌜ r ≡ writtenOf kind length remainder text answer ⌝ }
-{
-    Repaired {
-        answer,
-        sheet: Sheet {
-            kind,
-            length,
-            remainder,
-            text,
-        },
-    }
-}
-
-fn unknown(kind: u16, old: Sheet) -> Repaired
-    ensures { λ r. ⌜ r ≡ refusal old (Reason.UnknownKind kind) 24 ⌝ }
-{
-    refused(old, Reason::UnknownKind { kind: kind as u64 }, 24)
-}
-
-// The answer's number is the remainder, so that it is summed once.
 pub fn load(kind: u16, field: &[u8], old: Sheet) -> Repaired
     ensures { λ r. ⌜ r ≡ loadOf kind (now (field .entry)) old ⌝ }
 {
-    if kind < 1 {
-        return unknown(kind, old);
+    if is_sheet_kind(kind) {
+        let answer = field::check_field(kind, field);
+        if is_summed(answer) {
+            return Repaired {
+                answer,
+                sheet: sheet_of(kind, field),
+            };
+        }
+        return Repaired { answer, sheet: old };
     }
-    if 2 < kind {
-        return unknown(kind, old);
-    }
-    let answer = field::check_field(kind, field);
-    if is_summed(answer) {
-        let h = hold(kind, field);
-        let text = h.text;
-        let remainder = answer.value();
-        return written(kind, h.count, remainder, text, answer);
-    }
-    Repaired { answer, sheet: old }
+    refused(old, Reason::UnknownKind { kind: kind as u64 }, 24)
 }
 
 fn same_text(a: [u8; 34], b: [u8; 34]) -> bool
@@ -183,28 +186,17 @@ fn same(a: Sheet, b: Sheet) -> bool
     same_text(t, u)
 }
 
-// The sheet that loading a text of its own bytes gives.
-fn again(kind: u16, length: usize, text: [u8; 34]) -> Sheet
-    requires { ⌜ length ≤ 34 ⌝ }
-    ensures { λ r. ⌜ r ≡ loadOf kind (take length text) emptySheet .sheet ⌝ }
-{
-    let own = load(kind, &text[0..length], empty());
-    own.sheet
-}
-
-// A sheet longer than its bytes is none that a load gives, and is not read.
+// A sheet stands where it is not empty, and is the one that loading its own text gives.
 fn stands(sheet: Sheet) -> bool
     ensures { λ r. ⌜ r ≡ standing sheet ⌝ }
 {
     if same(sheet, empty()) {
         return false;
     }
-    let length = sheet.length;
-    if 34 < length {
-        return false;
-    }
     let text = sheet.text;
-    same(again(sheet.kind, length, text), sheet)
+    let own = load(sheet.kind, front(&text, sheet.length), empty());
+    let loaded = own.sheet;
+    same(loaded, sheet)
 }
 
 fn sheet_step(sheet: Sheet) -> Step
@@ -239,12 +231,21 @@ fn byte_step(place: usize, byte: u8) -> Step
     Step::Stop(Reason::Unfit { place }, 22)
 }
 
+// What a request gives, before it is made: its places and its byte.
+fn given_steps(length: usize, request: Request) -> Step
+    ensures { λ r. ⌜ r ≡ givenSteps length request ⌝ }
+{
+    match request {
+        Request::Replace { place, byte } => place_step(length, place).then(byte_step(place, byte)),
+        Request::Exchange { i, j } => place_step(length, i).then(place_step(length, j)),
+        Request::Fill => Step::Pass,
+    }
+}
+
 fn text_step(kind: u16, t: &[u8]) -> Step
     ensures { λ r. ⌜ r ≡ textStep kind (now (t .entry)) ⌝ }
 {
-    let h = hold(kind, t);
-    let step = h.step;
-    match step {
+    match characters(kind, t) {
         Step::Pass => Step::Pass,
         Step::Stop(reason, _) => {
             let numbers = reason.numbers();
@@ -258,84 +259,23 @@ fn text_step(kind: u16, t: &[u8]) -> Step
     }
 }
 
-// The byte at a place.
+// The byte at a place; past the 34 bytes nothing changes.
 fn put(text: [u8; 34], place: usize, byte: u8) -> [u8; 34]
-    requires { ⌜ place < 34 ⌝ }
     ensures { λ r. ⌜ r ≡ set text place byte ⌝ }
 {
     let mut t = text;
-    t[place] = byte;
+    if place < 34 {
+        t[place] = byte;
+    }
     t
 }
 
 fn swap(text: [u8; 34], i: usize, j: usize) -> [u8; 34]
-    requires { ⌜ (i < 34) × (j < 34) ⌝ }
     ensures { λ r. ⌜ r ≡ exchanged text i j ⌝ }
 {
-    let mut t = text;
-    let a = t[i];
-    let b = t[j];
-    t[i] = b;
-    t[j] = a;
-    t
-}
-
-// A number's two digits, at a place and the next.
-fn stamp(text: [u8; 34], place: usize, d: u8) -> [u8; 34]
-    requires { ⌜ (place < 33) × (d < 100) ⌝ }
-    ensures { λ r. ⌜ r ≡ stamped text place d ⌝ }
-{
-    let mut t = text;
-    t[place] = 48 + d / 10;
-    t[place + 1] = 48 + d % 10;
-    t
-}
-
-// The repair to a new text, where it passes the character steps.
-fn renewed(sheet: Sheet, text: [u8; 34]) -> Repaired
-    requires { ⌜ Written (sheet .kind) (sheet .length) text ⌝ }
-    ensures { λ r. ⌜ r ≡ repairBy (textStep (sheet .kind) (take (sheet .length) text)) sheet (take (sheet .length) text) ⌝ }
-{
-    let kind = sheet.kind;
-    let length = sheet.length;
-    match text_step(kind, &text[0..length]) {
-        Step::Pass => {
-            let answer = field::check_field(kind, &text[0..length]);
-            let remainder = answer.value();
-            written(kind, length, remainder, text, answer)
-        }
-        Step::Stop(reason, check) => refused(sheet, reason, check),
-    }
-}
-
-pub fn replace(sheet: Sheet, place: usize, byte: u8) -> Repaired
-    ensures { λ r. ⌜ r ≡ repairOf sheet (Replace place byte) ⌝ }
-{
-    let length = sheet.length;
-    match sheet_step(sheet)
-        .then(place_step(length, place))
-        .then(byte_step(place, byte)) {
-        Step::Pass => {
-            let text = sheet.text;
-            renewed(sheet, put(text, place, byte))
-        }
-        Step::Stop(reason, check) => refused(sheet, reason, check),
-    }
-}
-
-pub fn exchange(sheet: Sheet, i: usize, j: usize) -> Repaired
-    ensures { λ r. ⌜ r ≡ repairOf sheet (Exchange i j) ⌝ }
-{
-    let length = sheet.length;
-    match sheet_step(sheet)
-        .then(place_step(length, i))
-        .then(place_step(length, j)) {
-        Step::Pass => {
-            let text = sheet.text;
-            renewed(sheet, swap(text, i, j))
-        }
-        Step::Stop(reason, check) => refused(sheet, reason, check),
-    }
+    let a = text::at(&text, i);
+    let b = text::at(&text, j);
+    put(put(text, i, b), j, a)
 }
 
 fn digits_place(kind: u16) -> usize
@@ -344,28 +284,73 @@ fn digits_place(kind: u16) -> usize
     if kind == 1 { 2 } else { 18 }
 }
 
-fn remainder(kind: u16, t: &[u8]) -> u64
-    ensures { λ r. ⌜ r ≡ remainderBy kind (now (t .entry)) ⌝ }
+// A number's two digits, in the check digits' places.
+fn stamp(kind: u16, text: [u8; 34], d: u8) -> [u8; 34]
+    ensures { λ r. ⌜ r ≡ stamped text (digitsPlace kind) d ⌝ }
 {
-    if kind == 1 {
-        return checkdigit::iban_remainder(t);
-    }
-    checkdigit::remainder(t)
+    let place = digits_place(kind);
+    put(put(text, place, 48 + d / 10), place + 1, 48 + d % 10)
 }
 
-pub fn fill(sheet: Sheet) -> Repaired
-    ensures { λ r. ⌜ r ≡ repairOf sheet Fill ⌝ }
+fn filled(sheet: Sheet) -> [u8; 34]
+    ensures { λ r. ⌜ r ≡ filledBytes sheet ⌝ }
 {
-    match sheet_step(sheet) {
+    let kind = sheet.kind;
+    let text = sheet.text;
+    let zero = stamp(kind, text, 0);
+    let digits = checkdigit::check_digits(remainder(kind, front(&zero, sheet.length)));
+    stamp(kind, text, digits as u8)
+}
+
+// A sheet's 34 bytes with the repair made as asked.
+fn asked(sheet: Sheet, request: Request) -> [u8; 34]
+    ensures { λ r. ⌜ r ≡ askedBytes sheet request ⌝ }
+{
+    let text = sheet.text;
+    match request {
+        Request::Replace { place, byte } => put(text, place, byte),
+        Request::Exchange { i, j } => swap(text, i, j),
+        Request::Fill => filled(sheet),
+    }
+}
+
+// The repair to a new text: refused where it breaks a character step, and else loaded.
+fn renewed(sheet: Sheet, t: &[u8]) -> Repaired
+    ensures { λ r. ⌜ r ≡ renewedBy (textStep (sheet .kind) (now (t .entry))) sheet (now (t .entry)) ⌝ }
+{
+    match text_step(sheet.kind, t) {
+        Step::Pass => load(sheet.kind, t, sheet),
+        Step::Stop(reason, check) => refused(sheet, reason, check),
+    }
+}
+
+pub fn repair(sheet: Sheet, request: Request) -> Repaired
+    ensures { λ r. ⌜ r ≡ repairOf sheet request ⌝ }
+{
+    let length = sheet.length;
+    match sheet_step(sheet).then(given_steps(length, request)) {
         Step::Pass => {
-            let kind = sheet.kind;
-            let length = sheet.length;
-            let text = sheet.text;
-            let place = digits_place(kind);
-            let zero = stamp(text, place, 0);
-            let digits = checkdigit::check_digits(remainder(kind, &zero[0..length]));
-            renewed(sheet, stamp(text, place, digits as u8))
+            let text = asked(sheet, request);
+            renewed(sheet, front(&text, length))
         }
         Step::Stop(reason, check) => refused(sheet, reason, check),
     }
+}
+
+pub fn replace(sheet: Sheet, place: usize, byte: u8) -> Repaired
+    ensures { λ r. ⌜ r ≡ repairOf sheet (Request.Replace place byte) ⌝ }
+{
+    repair(sheet, Request::Replace { place, byte })
+}
+
+pub fn exchange(sheet: Sheet, i: usize, j: usize) -> Repaired
+    ensures { λ r. ⌜ r ≡ repairOf sheet (Request.Exchange i j) ⌝ }
+{
+    repair(sheet, Request::Exchange { i, j })
+}
+
+pub fn fill(sheet: Sheet) -> Repaired
+    ensures { λ r. ⌜ r ≡ repairOf sheet Request.Fill ⌝ }
+{
+    repair(sheet, Request::Fill)
 }

@@ -1,21 +1,12 @@
--- `sheet::load` meets its contract: the kind, the check of the field, and what is held of it where the check answers 0 or 5.
+-- `sheet::load` meets its contract: the kind, the check of the field, and its sheet where the check answers 0 or 5.
 use mathlib.Core.Path.{_∙_, sym}
-use Rattle.sheet.proofs.Loads.{load-low, load-high, load-written, load-kept}
+use Rattle.sheet.proofs.Loads.{load-other, load-written, load-kept}
 use borrow.Author.Needs.{needs}
 use Rattle.sheet.proofs.load.Statement.{statement}
 use Rattle.sheet.proofs.load.Tie as tie
 
-unknown-requires : tie.Need-unknown-requires
-unknown-requires c κs = search needs
-
-returns : tie.Need-returns
-returns c = c .unknown .ensures ∙ load-low _ _ _ (c .before .if1 .taken)
-
-unknown-requires-2 : tie.Need-unknown-requires-2
-unknown-requires-2 c κs = search needs
-
-returns-2 : tie.Need-returns-2
-returns-2 c = c .unknown2 .ensures ∙ load-high _ _ _ (c .before .before .if1 .left) (c .before .if2 .taken)
+is-sheet-kind-requires : tie.Need-is-sheet-kind-requires
+is-sheet-kind-requires c κs = search needs
 
 check-field-requires : tie.Need-check-field-requires
 check-field-requires c κs = search needs
@@ -23,41 +14,39 @@ check-field-requires c κs = search needs
 is-summed-requires : tie.Need-is-summed-requires
 is-summed-requires c κs = search needs
 
-hold-requires : tie.Need-hold-requires
-hold-requires c κs = search needs
+sheet-of-requires : tie.Need-sheet-of-requires
+sheet-of-requires c κs = search needs
 
-value-requires : tie.Need-value-requires
-value-requires c κs = search needs
+returns : tie.Need-returns
+returns c =
+    let s = c .before in
+    let f = s .before .before in
+    let k = f .before in
+    load-written _ _ _ _ _ (sym (k .before .is-sheet-kind .ensures) ∙ k .if1 .taken) (f .check-field .ensures) (sym (s .before .is-summed .ensures) ∙ s .if2 .taken) (c .sheet-of .ensures)
 
-written-requires : tie.Need-written-requires
-written-requires c κs = search needs
+returns-2 : tie.Need-returns-2
+returns-2 c =
+    let f = c .before .before in
+    let k = f .before in
+    load-kept _ _ _ _ (sym (k .before .is-sheet-kind .ensures) ∙ k .if1 .taken) (f .check-field .ensures) (sym (c .before .is-summed .ensures) ∙ c .if2 .left)
+
+refused-requires : tie.Need-refused-requires
+refused-requires c κs = search needs
 
 returns-3 : tie.Need-returns-3
 returns-3 c =
-    let v = c .before in
-    let h = v .before .before in
-    let t = h .before in
-    let k = t .before .before in
-    c .written .ensures
-    ∙ load-written _ _ _ _ _ _ (k .before .before .if1 .left) (k .before .if2 .left) (k .check-field .ensures) (sym (t .before .is-summed .ensures) ∙ t .if3 .taken) (h .hold .ensures) (v .value .ensures)
-
-returns-4 : tie.Need-returns-4
-returns-4 c =
-    let k = c .before .before in
-    load-kept _ _ _ _ (k .before .before .if1 .left) (k .before .if2 .left) (k .check-field .ensures) (sym (c .before .is-summed .ensures) ∙ c .if3 .left)
+    let k = c .before in
+    c .refused .ensures ∙ sym (load-other _ _ _ (sym (k .before .is-sheet-kind .ensures) ∙ k .if1 .left))
 
 pub load-spec : {M : Type 1} → statement M
 load-spec =
     tie.close
     (tie.spec
-    unknown-requires
-    returns
-    unknown-requires-2
-    returns-2
+    is-sheet-kind-requires
     check-field-requires
     is-summed-requires
-    hold-requires
-    value-requires
-    written-requires
-    returns-3
-    returns-4)
+    sheet-of-requires
+    returns
+    returns-2
+    refused-requires
+    returns-3)

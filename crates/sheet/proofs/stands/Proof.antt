@@ -1,6 +1,7 @@
--- `sheet::stands` meets its contract: the empty sheet and one that is too long do not, any other where a load of its own text gives it.
-use mathlib.Core.Path.{_∙_, sym}
-use Rattle.sheet.proofs.Sheets.{empty-falls, long-falls, by-own}
+-- `sheet::stands` meets its contract: the empty sheet does not, any other where a load of its own text gives it.
+use mathlib.Core.Path.{_∙_, sym, ap}
+use Rattle.sheet.specs.declared.Repaired.{Repaired}
+use Rattle.sheet.proofs.Sheets.{empty-falls, by-own}
 use borrow.Author.Needs.{needs}
 use Rattle.sheet.proofs.stands.Statement.{statement}
 use Rattle.sheet.proofs.stands.Tie as tie
@@ -14,21 +15,29 @@ same-requires c κs = search needs
 returns : tie.Need-returns
 returns c = sym (empty-falls _ (sym (rw (c .before .before .empty .ensures) at (c .before .same .ensures)) ∙ c .if1 .taken))
 
-returns-2 : tie.Need-returns-2
-returns-2 c = sym (long-falls _ (c .if2 .taken))
+slice-aggregate-front : tie.Need-slice-aggregate-front
+slice-aggregate-front c = search needs
 
-again-requires : tie.Need-again-requires
-again-requires c κs = search needs
+front-requires : tie.Need-front-requires
+front-requires c κs = search needs
+
+empty-requires-2 : tie.Need-empty-requires-2
+empty-requires-2 c κs = search needs
+
+load-requires : tie.Need-load-requires
+load-requires c κs = search needs
 
 same-requires-2 : tie.Need-same-requires-2
 same-requires-2 c κs = search needs
 
-returns-3 : tie.Need-returns-3
-returns-3 c =
-    let f = c .before .before .before .before in
-    let e = f .before .before in
-    rw (c .before .again .ensures) at (c .same2 .ensures)
-    ∙ sym (by-own _ (sym (rw (e .empty .ensures) at (f .before .same .ensures)) ∙ f .if1 .left))
+returns-2 : tie.Need-returns-2
+returns-2 c =
+    let l = c .before .before in
+    let f = l .before .before in
+    let i = f .before .before .before in
+    c .same2 .ensures
+    ∙ rw (ap (λ (r : Repaired). r .sheet) (l .load .ensures), f .front .ensures, l .before .empty2 .ensures)
+    (sym (by-own _ (sym (rw (i .before .before .empty .ensures) at (i .before .same .ensures)) ∙ i .if1 .left)))
 
 pub stands-spec : {M : Type 1} → statement M
 stands-spec =
@@ -37,7 +46,9 @@ stands-spec =
     empty-requires
     same-requires
     returns
-    returns-2
-    again-requires
+    slice-aggregate-front
+    front-requires
+    empty-requires-2
+    load-requires
     same-requires-2
-    returns-3)
+    returns-2)

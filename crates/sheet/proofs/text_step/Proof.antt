@@ -1,32 +1,33 @@
 -- `sheet::text_step` meets its contract: the word of the character steps, as refusal 22.
-use mathlib.Core.Path.{ap}
-use borrow.Author.Needs.{needs}
+use mathlib.Core.Path.{ap, sym, _∙_}
 use Rattle.answer.specs.declared.Numbers.{Numbers}
 use Rattle.answer.specs.declared.Step.the-variants.{Pass, Stop}
 use Rattle.sheet.proofs.Repairs.{text-step-is}
+use borrow.Author.Needs.{needs}
 use Rattle.sheet.proofs.text_step.Statement.{statement}
 use Rattle.sheet.proofs.text_step.Tie as tie
 
-hold-requires : tie.Need-hold-requires
-hold-requires c κs = search needs
+characters-requires : tie.Need-characters-requires
+characters-requires c κs = search needs
 
 enum-told : tie.Need-enum-told
 enum-told c = search needs
 
-enum-known-step : tie.Need-enum-known-step
-enum-known-step c = search needs
+enum-known-reason : tie.Need-enum-known-reason
+enum-known-reason c = search needs
 
 numbers-requires : tie.Need-numbers-requires
 numbers-requires c κs = search needs
 
 returns : tie.Need-returns
-returns c = text-step-is _ _ _ (c .before .before .hold .ensures) Pass (c .enum-told .given .1)
+returns c = text-step-is _ _ Pass (sym (c .before .before .characters .ensures) ∙ c .enum-told .given .1)
 
 returns-2 : tie.Need-returns-2
 returns-2 c =
     let s = c .before .before in
-    rw (ap (λ (x : Numbers). x .place) (c .numbers .ensures)) (text-step-is _ _ _ (s .before .before .hold .ensures) (Stop _ _) (s .step .given .1))
+    rw (ap (λ (x : Numbers). x .place) (c .numbers .ensures)) (text-step-is _ _ (Stop _ _) (sym (s .before .before .characters .ensures) ∙ s .reason .given .1))
 
 pub text-step-spec : {M : Type 1} → statement M
 text-step-spec =
-    tie.close (tie.spec hold-requires enum-told enum-known-step numbers-requires returns returns-2)
+    tie.close
+    (tie.spec characters-requires enum-told enum-known-reason numbers-requires returns returns-2)

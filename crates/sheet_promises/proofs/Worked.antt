@@ -18,18 +18,19 @@ use Rattle.utf8.specs.Space.{whiteSpace}
 use Rattle.checkdigit.specs.Letter.{letterValue}
 use Rattle.checkdigit.specs.Sum.{characterValue, characterDigits, expand, remainderOf, rearranged, ibanRemainder}
 use Rattle.checkdigit.specs.Verdict.{remainderStep}
-use Rattle.iban.specs.Left.{leftFrom, left, textOf}
-use Rattle.iban.specs.Iban.{each, countStep, classSteps, ibanCharacters, ibanAnswer}
-use Rattle.iban.specs.Held.{padded}
+use Rattle.iban.specs.Electronic.{electronicFrom, electronic, textOf, placeIn}
+use Rattle.iban.specs.Iban.{allAscii, asciiStep, countStep, classSteps, reasonIn, ibanCharacters, ibanAnswer}
+use Rattle.iban.specs.Format.{padded}
 use Rattle.lei.specs.Lei.{leiCharacters, leiAnswer}
 use Rattle.field.specs.Field.{admission, ruleOf, checkField}
 use Rattle.sheet.specs.Sheets.{heldText, characters, remainderBy, sheetOf, emptySheet, held, sameSheet}
 use Rattle.sheet.specs.Load.{summed, loadOf, standing}
-use Rattle.sheet.specs.Repairs.{Request, filled, asked, placeStep, byteStep, textStep, requestSteps, sheetStep, repairBy, repairOf}
-use Rattle.sheet.specs.Repairs.Request.{Replace, Exchange, Fill}
-use Rattle.sheet.specs.Calls.{callsAfter}
+use Rattle.sheet.specs.declared.Request.{Request}
+use Rattle.sheet.specs.Repairs.{filled, asked, placeStep, byteStep, textStep, givenSteps, requestSteps, sheetStep, repairBy, repairOf}
+use Rattle.sheet.specs.declared.Request.the-variants.{Replace, Exchange, Fill}
+use Rattle.sheet_promises.specs.Calls.{callsAfter}
 use Rattle.sheet.specs.declared.Sheet.{Sheet}
 use Rattle.sheet.specs.declared.Repaired.{Repaired}
 
 -- a field loaded into the empty sheet, calls on it, and what the last one says
 pub record Case : Type 0 where
@@ -88,5 +89,5 @@ forged =
 pub worked : (map (λ c. last c .answer) table ≡ map (λ c. c .answer) table)
     × (map (λ c. held (last c .sheet)) table ≡ map (λ c. bytesOf (c .text)) table)
     × (map (λ s. repairOf s Fill .answer) forged ≡ Refused NoSheet 20 ∷ Refused NoSheet 20 ∷ Refused NoSheet 20 ∷ [])
-unfolding classOf decimal numberWritten lengthIs wrongFrom firstWrong leadOf needed wellFormed scalarOf charOf front charsPast widths validPrefix whiteSpace letterValue characterValue characterDigits expand remainderOf rearranged ibanRemainder remainderStep leftFrom left textOf each countStep classSteps ibanCharacters ibanAnswer padded leiCharacters leiAnswer admission ruleOf checkField heldText characters remainderBy sheetOf emptySheet sameText sameSheet summed loadOf standing filled asked placeStep byteStep textStep requestSteps sheetStep repairBy repairOf callsAfter _andThen_ _orAccept_
+unfolding classOf decimal numberWritten lengthIs wrongFrom firstWrong leadOf needed wellFormed scalarOf charOf front charsPast widths validPrefix whiteSpace letterValue characterValue characterDigits expand remainderOf rearranged ibanRemainder remainderStep electronicFrom electronic textOf placeIn allAscii asciiStep countStep classSteps reasonIn ibanCharacters ibanAnswer padded leiCharacters leiAnswer admission ruleOf checkField heldText characters remainderBy sheetOf emptySheet sameText sameSheet summed loadOf standing filled asked placeStep byteStep textStep givenSteps requestSteps sheetStep repairBy repairOf callsAfter _andThen_ _orAccept_
 worked = (refl, refl, refl)

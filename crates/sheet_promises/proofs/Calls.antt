@@ -1,20 +1,21 @@
 -- What a request does to a text that fits: made, it leaves one that fits; its answer is never 20; and what its answer says of the remainder.
 use Prim.Native.Nat.{ℕ, _≤_, _<_}
-use mathlib.Core.Path.{_≡_, refl, sym, _∙_}
+use mathlib.Core.Path.{_≡_, refl, sym, _∙_, ap}
 use mathlib.Core.Bool.{Bool, true, false, cond}
 use mathlib.Core.List.{List}
 use mathlib.Core.Logic.{_≢_}
 use native.Mathlib.Omega.{arith}
-use lib.Dec.{eqb, ltb, eqb→eq}
+use borrow.Author.Tests.{eqb-true}
+use lib.Dec.{T, eqb, ltb, eqb→eq}
 use lib.ListN.{length, set, getD}
 use Rattle.answer.specs.Steps.{must, _andThen_, _orAccept_}
-use Rattle.answer.specs.Table.{numberOf, rowOf}
+use Rattle.answer.specs.Table.{numberOf, valueOf, rowOf}
 use Rattle.answer.specs.declared.Answer.the-variants.{Accepted}
 use Rattle.answer.specs.declared.Reason.{Reason}
 use Rattle.answer.specs.declared.Reason.the-variants.{NoPlace, Unfit, Remainder}
 use Rattle.answer.specs.declared.Step.{Step}
 use Rattle.answer.specs.declared.Step.the-variants.{Pass, Stop}
-use Rattle.answer.proofs.Laws.{passes, both-pass, accepted-pass, test-held}
+use Rattle.answer.proofs.Laws.{accepted-pass, test-held}
 use Rattle.text.specs.Class.{allowed}
 use Rattle.text.specs.declared.Set.the-variants.{LettersDigits}
 use Rattle.checkdigit.specs.Letter.{Slip}
@@ -22,36 +23,47 @@ use Rattle.checkdigit.specs.Sum.{remainderOf, ibanRemainder, exchanged}
 use Rattle.checkdigit.specs.Verdict.{remainderStep}
 use Rattle.checkdigit.proofs.Promises.{replaced-not-one, iban-replaced-not-one, exchanged-not-one, iban-exchanged-not-one, filled-one, iban-filled-one}
 use Rattle.field.specs.Field.{checkField}
-use Rattle.sheet.specs.Sheets.{characters, remainderBy, sheetOf, held}
-use Rattle.sheet.specs.Repairs.{Request, filled, asked, placeStep, byteStep, textStep, unfit, requestSteps, repairBy, repairOf}
-use Rattle.sheet.specs.Repairs.Request.{Replace, Exchange, Fill}
-use Rattle.sheet.specs.Calls.{checkedBy, heldBack}
+use Rattle.sheet.specs.Sheets.{sheetKind, heldText, characters, remainderBy, sheetOf, held}
+use Rattle.sheet.specs.Load.{summed, loadOf}
+use Rattle.sheet.specs.declared.Request.{Request}
+use Rattle.sheet.specs.Repairs.{filled, asked, placeStep, byteStep, textStep, unfit, givenSteps, requestSteps, repairBy, repairOf}
+use Rattle.sheet.specs.declared.Request.the-variants.{Replace, Exchange, Fill}
+use Rattle.sheet_promises.specs.Calls.{checkedBy, heldBack}
 use Rattle.sheet.specs.declared.Sheet.{Sheet}
-use Rattle.sheet.proofs.Fits.{Fit, by-kind, fit-plain, fit-few, plain-fit}
-use Rattle.sheet.proofs.Loads.{fresh, lastCheck}
-use Rattle.sheet.proofs.Sheets.{Stood, held-of, sheet-stood}
-use Rattle.sheet.proofs.Repairs.{place-passed, byte-passed, text-passed, sheet-passes, plain-set, fit-filled}
+use Rattle.sheet.specs.declared.Repaired.{Repaired}
+use Rattle.sheet.proofs.Fits.{Fit, by-kind, fit-few, lei-long}
+use Rattle.sheet.proofs.Loads.{fresh, lastCheck, holding, load-other, load-refused, load-taken, taken-fit, taken-check}
+use Rattle.sheet.proofs.Sheets.{held-of, sheet-stood}
+use Rattle.sheet.proofs.Repairs.{asked-fit, by-request}
 
--- the text of a request that is made fits again
-pub asked-fit : (kind : ℕ) (t : List ℕ) (q : Request) → Fit kind t → requestSteps kind t q ≡ Pass → Fit kind (asked kind t q)
-unfolding requestSteps asked
-asked-fit kind t (Replace p b) f e =
-    let x = both-pass (placeStep (length t) p andThen byteStep p b) (textStep kind (set t p b)) e in
-    let y = both-pass (placeStep (length t) p) (byteStep p b) (x .0) in
-    plain-fit kind (set t p b) (f .known) (plain-set t p b (fit-plain kind t f) (byte-passed p b (y .1))) (text-passed kind (set t p b) (x .1))
-asked-fit kind t (Exchange i j) f e =
-    let x = both-pass (placeStep (length t) i andThen placeStep (length t) j) (textStep kind (exchanged t i j)) e in
-    let y = both-pass (placeStep (length t) i) (placeStep (length t) j) (x .0) in
-    let p = fit-plain kind t f in
-    plain-fit kind (exchanged t i j) (f .known)
-    (plain-set (set t i (getD t j 0)) j (getD t i 0) (plain-set t i (getD t j 0) p (p j (place-passed (length t) j (y .1)))) (p i (place-passed (length t) i (y .0))))
-    (text-passed kind (exchanged t i j) (x .1))
-asked-fit kind t Fill f e = fit-filled kind t f
+-- an answer of 0 or 5 to a load says that the field was taken, and then sheet and answer are those of the held text
+module _ (kind : ℕ) (s : List ℕ) (old : Sheet) where
+  pub record Took : Type 0 where
+    pub fit : Fit kind (heldText kind s)
+    pub is : loadOf kind s old ≡ holding kind (heldText kind s)
 
--- of a sheet that stands, only the request's own steps speak
-pub by-request : (s : Sheet) (q : Request) → Stood s → repairOf s q ≡ repairBy (requestSteps (s .kind) (held s) q) s (asked (s .kind) (held s) q)
-unfolding repairOf
-by-request s q o = rw (passes (requestSteps (s .kind) (held s) q) (sheet-passes s o))
+  pub took : summed (loadOf kind s old .answer) ≡ true → Took
+  unfolding summed
+  took e = go (sheetKind kind) refl (summed (checkField kind s)) refl
+    where
+      go : (a : Bool) → sheetKind kind ≡ a → (b : Bool) → summed (checkField kind s) ≡ b → Took
+      go false p b q = let z : _≡_ {A = ℕ} 0 1 = cc (ap (λ (r : Repaired). summed (r .answer)) (load-other kind s old p)) in absurd (omega arith)
+      go true p false q = let z : _≡_ {A = ℕ} 0 1 = cc (ap (λ (r : Repaired). summed (r .answer)) (load-refused kind s old p q)) in absurd (omega arith)
+      go true p true q =
+          let k : T (sheetKind kind) = rw p tt in
+          record { fit = taken-fit kind s k q; is = load-taken kind s old p q ∙ rw (taken-check kind s k q) }
+
+-- the number of a fresh check of a text that fits is its remainder
+remainder-value : (r k : ℕ) → valueOf (remainderStep r k orAccept 1) ≡ r
+unfolding remainderStep _orAccept_
+remainder-value r k = go (eqb r 1) refl
+  where
+    go : (b : Bool) → eqb r 1 ≡ b → valueOf (must b (Remainder r) k orAccept 1) ≡ r
+    go true e = sym (eqb-true r 1 e)
+    go false e = refl
+
+pub fresh-value : (kind : ℕ) (t : List ℕ) → Fit kind t → valueOf (checkField kind t) ≡ remainderBy kind t
+fresh-value kind t f = ap valueOf (fresh kind t f) ∙ remainder-value (remainderBy kind t) (lastCheck kind)
 
 kind-of : (kind : ℕ) (t : List ℕ) → sheetOf kind t .kind ≡ kind
 unfolding sheetOf
@@ -100,22 +112,16 @@ other-place : (n p : ℕ) → Other (placeStep n p)
 unfolding placeStep
 other-place n p = other-must (ltb p n) (NoPlace p) 21 (λ e. omega arith)
 
-other-text : (kind : ℕ) (t : List ℕ) → Other (textStep kind t)
-unfolding textStep
-other-text kind t = other-unfit (characters kind t)
+other-given : (n : ℕ) (q : Request) → Other (givenSteps n q)
+unfolding givenSteps byteStep Other
+other-given n (Replace p b) =
+    other-then (placeStep n p) (must (allowed LettersDigits b) (Unfit p) 22) (other-place n p) (other-must (allowed LettersDigits b) (Unfit p) 22 (λ e. omega arith))
+other-given n (Exchange i j) = other-then (placeStep n i) (placeStep n j) (other-place n i) (other-place n j)
+other-given n Fill = tt
 
 other-request : (kind : ℕ) (t : List ℕ) (q : Request) → Other (requestSteps kind t q)
-unfolding requestSteps byteStep Other
-other-request kind t (Replace p b) =
-    let c = must (allowed LettersDigits b) (Unfit p) 22 in
-    other-then (placeStep (length t) p andThen c) (textStep kind (set t p b))
-    (other-then (placeStep (length t) p) c (other-place (length t) p) (other-must (allowed LettersDigits b) (Unfit p) 22 (λ e. omega arith)))
-    (other-text kind (set t p b))
-other-request kind t (Exchange i j) =
-    other-then (placeStep (length t) i andThen placeStep (length t) j) (textStep kind (exchanged t i j))
-    (other-then (placeStep (length t) i) (placeStep (length t) j) (other-place (length t) i) (other-place (length t) j))
-    (other-text kind (exchanged t i j))
-other-request kind t Fill = tt
+unfolding requestSteps textStep
+other-request kind t q = other-then (givenSteps (length t) q) (textStep kind (asked kind t q)) (other-given (length t) q) (other-unfit (characters kind (asked kind t q)))
 
 remainder-number : (r k : ℕ) → numberOf (remainderStep r k orAccept 1) ≢ 20
 unfolding remainderStep _orAccept_
@@ -169,7 +175,7 @@ iban-filled t f = let l = fit-few 1 t f in iban-filled-one t (omega arith)
 
 lei-filled : (t : List ℕ) → Fit 2 t → remainderBy 2 (filled 2 t) ≡ 1
 unfolding remainderBy filled
-lei-filled t f = let e = eqb→eq (length t) 20 (f .long) in filled-one t 18 (omega arith)
+lei-filled t f = let n = lei-long t (f .passes) in filled-one t 18 (omega arith)
 
 pub filled-remainder : (kind : ℕ) (t : List ℕ) → Fit kind t → remainderBy kind (filled kind t) ≡ 1
 filled-remainder kind t f = by-kind (λ k. Fit k t → remainderBy k (filled k t) ≡ 1) (iban-filled t) (lei-filled t) kind (f .known) f

@@ -7,10 +7,11 @@ use Rattle.answer.specs.declared.Answer.the-variants.{Refused}
 use Rattle.answer.specs.declared.Step.{Step}
 use Rattle.answer.specs.declared.Step.the-variants.{Pass, Stop}
 use Rattle.field.specs.Field.{checkField}
 use Rattle.sheet.specs.Sheets.{sheetOf}
-use Rattle.sheet.specs.Repairs.{Request, digitsPlace, asked, requestSteps, repairOf}
-use Rattle.sheet.specs.Repairs.Request.{Replace, Exchange, Fill}
+use Rattle.sheet.specs.declared.Request.{Request}
+use Rattle.sheet.specs.Repairs.{digitsPlace, asked, requestSteps, repairOf}
+use Rattle.sheet.specs.declared.Request.the-variants.{Replace, Exchange, Fill}
 use Rattle.sheet.specs.declared.Repaired.{Repaired}
 
 -- each request is made of the sheet that the call before it returned
 unfoldable pub callsAfter : Repaired → List Request → Repaired

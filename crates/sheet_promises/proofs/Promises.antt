@@ -23,18 +23,19 @@ use Rattle.checkdigit.specs.Sum.{exchanged}
 use Rattle.checkdigit.specs.Fill.{checkDigits, stamped}
 use Rattle.checkdigit.proofs.Fill.{check-digits-ends}
 use Rattle.field.specs.Field.{admission, checkField}
 use Rattle.sheet.specs.Sheets.{sheetKind, heldText, characters, remainderBy, sheetOf, emptySheet, held, sameSheet}
 use Rattle.sheet.specs.Load.{refusal, summed, loadOf, standing}
-use Rattle.sheet.specs.Repairs.{Request, digitsPlace, filled, asked, placeStep, requestSteps, sheetStep, repairBy, repairOf}
-use Rattle.sheet.specs.Repairs.Request.{Replace, Exchange, Fill}
-use Rattle.sheet.specs.Calls.{callsAfter, Checked, freshly, checkedBy, textsAfter, heldBack, Elsewhere}
+use Rattle.sheet.specs.declared.Request.{Request}
+use Rattle.sheet.specs.Repairs.{digitsPlace, filled, asked, placeStep, givenSteps, requestSteps, sheetStep, repairBy, repairOf}
+use Rattle.sheet.specs.declared.Request.the-variants.{Replace, Exchange, Fill}
+use Rattle.sheet_promises.specs.Calls.{callsAfter, Checked, freshly, checkedBy, textsAfter, heldBack, Elsewhere}
 use Rattle.sheet.specs.declared.Sheet.{Sheet}
 use Rattle.sheet.specs.declared.Repaired.{Repaired}
 use Rattle.sheet.proofs.Fits.{Fit, fit-few}
-use Rattle.sheet.proofs.Loads.{took, load-fit, summed-passes, passes-summed, fresh-value, fresh-summed}
+use Rattle.sheet.proofs.Loads.{load-fit, summed-passes, passes-summed, fresh-summed}
 use Rattle.sheet.proofs.Sheets.{Stood, stood, stands, empty-falls, by-own, stood-size, sheet-stood, same-sheet, sheet-same}
-use Rattle.sheet.proofs.Repairs.{fit-filled, text-passes, sheet-passed}
-use Rattle.sheet.proofs.Calls.{asked-fit, by-request, call-is, told-fit, not-twenty, accepted-one, one-accepted, slipped, traded, filled-remainder}
+use Rattle.sheet.proofs.Repairs.{asked-fit, by-request, fit-filled, text-passes, sheet-passed}
+use Rattle.sheet_promises.proofs.Calls.{took, fresh-value, call-is, told-fit, not-twenty, accepted-one, one-accepted, slipped, traded, filled-remainder}
 
 -- A load answers 0 or 5 exactly where the field is admitted and passes every step of its rule but the remainder.
 pub takes-what-passes : (kind : ℕ) (s : List ℕ) → T (sheetKind kind)
@@ -147,12 +148,16 @@ module _ (s : Sheet) (e : standing s ≡ true) (n : ℕ) (accepted : checkField 
       caught s (Exchange i j) m o (traded (s .kind) (held s) i j (omega arith) (omega arith) (fit-few (s .kind) (held s) (o .fit) .1) w one)
 
 -- A fill of a sheet that stands is accepted with 1; the digits are 02 to 98; only 20 can refuse it.
+fill-passes : (kind : ℕ) (t : List ℕ) → Fit kind t → requestSteps kind t Fill ≡ Pass
+unfolding requestSteps givenSteps asked _andThen_
+fill-passes kind t f = text-passes kind (filled kind t) (fit-filled kind t f)
+
 pub fill-accepted : (s : Sheet) → standing s ≡ true → repairOf s Fill ≡ record { answer = Accepted 1; sheet = sheetOf (s .kind) (filled (s .kind) (held s)) }
-unfolding requestSteps asked repairBy
+unfolding asked repairBy
 fill-accepted s e =
     let o = stood s e in
     let t = filled (s .kind) (held s) in
-    by-request s Fill o ∙ rw (one-accepted (s .kind) t (fit-filled (s .kind) (held s) (o .fit)) (filled-remainder (s .kind) (held s) (o .fit)))
+    by-request s Fill o ∙ rw (fill-passes (s .kind) (held s) (o .fit), one-accepted (s .kind) t (fit-filled (s .kind) (held s) (o .fit)) (filled-remainder (s .kind) (held s) (o .fit)))
 
 pub fill-digits : (kind : ℕ) (t : List ℕ) → (2 ≤ checkDigits (remainderBy kind (stamped t (digitsPlace kind) 0))) × (checkDigits (remainderBy kind (stamped t (digitsPlace kind) 0)) ≤ 98)
 fill-digits kind t = check-digits-ends (remainderBy kind (stamped t (digitsPlace kind) 0))
@@ -217,7 +222,7 @@ repair-keeps s q = go (sheetStep s andThen requestSteps (s .kind) (held s) q) re
 
 -- An exchange of a place with itself changes nothing and answers as a fresh check.
 pub exchange-self : (s : Sheet) (i : ℕ) → standing s ≡ true → i < s .length → repairOf s (Exchange i i) ≡ record { answer = checkField (s .kind) (held s); sheet = s }
-unfolding requestSteps asked placeStep repairBy _andThen_
+unfolding requestSteps givenSteps asked placeStep repairBy _andThen_
 exchange-self s i e h =
     let o = stood s e in
     let t = held s in

@@ -1,0 +1,2 @@
+-- The definitions that the promises of `sheet` cite.
+pub mod Calls
