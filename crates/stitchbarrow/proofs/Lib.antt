@@ -1,5 +1,3 @@
--- The laws and theorems of `stitchbarrow`.
+-- The laws of `stitchbarrow`.
 pub mod Laws
-pub mod Sheets
 pub mod Replies
-pub mod Promises

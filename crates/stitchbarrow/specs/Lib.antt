@@ -1,4 +1,4 @@
--- The definitions that the contracts and promises of `stitchbarrow` cite.
+-- The definitions that the contracts of `stitchbarrow` cite.
 pub mod Sheets
 pub mod Reply
-pub mod Calls
+pub mod Inner

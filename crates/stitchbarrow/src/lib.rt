@@ -5,7 +5,7 @@ ghost use Prim.Native.Nat.{_≤_};
 ghost use lib.ListN.{length, drop};
 ghost use Rattle.sheet.specs.Load.{loadOf};
 ghost use Rattle.sheet.specs.Repairs.{repairOf};
-ghost use Rattle.sheet.specs.Repairs.Request.{Replace, Exchange, Fill};
+ghost use Rattle.sheet.specs.declared.Request.{Request};
 ghost use Rattle.stitchbarrow.specs.Sheets.{sheetSize, sheetAt, sheetBytes};
 ghost use Rattle.stitchbarrow.specs.Reply.{
   answerSize,
@@ -15,13 +15,19 @@ ghost use Rattle.stitchbarrow.specs.Reply.{
   RunReply,
   runReply,
   SheetReply,
-  handed,
-  tooShort,
   sheetReply,
 };
+ghost use Rattle.stitchbarrow.specs.Inner.{madeOf};
 use answer::Answer;
 use sheet::Repaired;
+use sheet::Request;
 use sheet::Sheet;
+
+// What is asked of a sheet: to load a field of a kind, or to be repaired.
+enum Call {
+    Load { kind: u16 },
+    Repair { request: Request },
+}
 
 // What a function returns where a lent slice is too short for what it would write.
 const TOO_SHORT: u8 = 255;
@@ -102,20 +108,27 @@ fn write_sheet(b: &mut [u8], s: Sheet)
     bytes::copy(&text, &mut b[12..46]);
 }
 
-fn too_short(sheet: usize, answer: usize) -> bool
-    ensures { λ r. ⌜ r ≡ tooShort sheet answer ⌝ }
+fn made(call: Call, value: &[u8], old: Sheet) -> Repaired
+    ensures { λ r. ⌜ r ≡ madeOf call (now (value .entry)) old ⌝ }
 {
-    if sheet < SHEET_SIZE {
-        return true;
+    match call {
+        Call::Load { kind } => sheet::load(kind, value, old),
+        Call::Repair { request } => sheet::repair(old, request),
     }
-    answer < ANSWER_SIZE
 }
 
-// A load's or a repair's sheet and answer, written to the first bytes of their slices.
-fn hand_back(done: Repaired, sheet: &mut [u8], answer: &mut [u8]) -> u8
-    requires { ⌜ (sheetSize ≤ length (now sheet)) × (answerSize ≤ length (now answer)) ⌝ }
-    ensures { λ r. ⌜ record { code = r; sheet = now (sheet .exit); answer = now (answer .exit) } ≡ handed done (now (sheet .entry)) (now (answer .entry)) ⌝ }
+// A call on the sheet that lent bytes write: the sheet and the answer go to the first bytes of their slices, where both are long enough. Only
+// a load reads `value`.
+fn reply(call: Call, value: &[u8], sheet: &mut [u8], answer: &mut [u8]) -> u8
+    ensures { λ r. ⌜ record { code = r; sheet = now (sheet .exit); answer = now (answer .exit) } ≡ sheetReply (madeOf call (now (value .entry)) (sheetAt (now (sheet .entry)))) (now (sheet .entry)) (now (answer .entry)) ⌝ }
 {
+    if sheet.len() < SHEET_SIZE {
+        return TOO_SHORT;
+    }
+    if answer.len() < ANSWER_SIZE {
+        return TOO_SHORT;
+    }
+    let done = made(call, value, read_sheet(sheet));
     let new = done.sheet;
     let a = done.answer;
     write_sheet(sheet, new);
@@ -132,10 +145,7 @@ pub extern "C" fn stitchbarrow_load(
 ) -> u8
     ensures { λ r. ⌜ record { code = r; sheet = now (sheet .exit); answer = now (answer .exit) } ≡ sheetReply (loadOf kind (now (value .entry)) (sheetAt (now (sheet .entry)))) (now (sheet .entry)) (now (answer .entry)) ⌝ }
 {
-    if too_short(sheet.len(), answer.len()) {
-        return TOO_SHORT;
-    }
-    hand_back(sheet::load(kind, value, read_sheet(sheet)), sheet, answer)
+    reply(Call::Load { kind }, value, sheet, answer)
 }
 
 // Puts a byte at a place of the held text.
@@ -146,16 +156,10 @@ pub extern "C" fn stitchbarrow_replace(
     byte: u8,
     answer: &mut [u8],
 ) -> u8
-    ensures { λ r. ⌜ record { code = r; sheet = now (sheet .exit); answer = now (answer .exit) } ≡ sheetReply (repairOf (sheetAt (now (sheet .entry))) (Replace place byte)) (now (sheet .entry)) (now (answer .entry)) ⌝ }
+    ensures { λ r. ⌜ record { code = r; sheet = now (sheet .exit); answer = now (answer .exit) } ≡ sheetReply (repairOf (sheetAt (now (sheet .entry))) (Request.Replace place byte)) (now (sheet .entry)) (now (answer .entry)) ⌝ }
 {
-    if too_short(sheet.len(), answer.len()) {
-        return TOO_SHORT;
-    }
-    hand_back(
-        sheet::replace(read_sheet(sheet), place, byte),
-        sheet,
-        answer,
-    )
+    let request = Request::Replace { place, byte };
+    reply(Call::Repair { request }, b"", sheet, answer)
 }
 
 // Exchanges the characters at two places of the held text.
@@ -166,21 +170,17 @@ pub extern "C" fn stitchbarrow_exchange(
     j: usize,
     answer: &mut [u8],
 ) -> u8
-    ensures { λ r. ⌜ record { code = r; sheet = now (sheet .exit); answer = now (answer .exit) } ≡ sheetReply (repairOf (sheetAt (now (sheet .entry))) (Exchange i j)) (now (sheet .entry)) (now (answer .entry)) ⌝ }
+    ensures { λ r. ⌜ record { code = r; sheet = now (sheet .exit); answer = now (answer .exit) } ≡ sheetReply (repairOf (sheetAt (now (sheet .entry))) (Request.Exchange i j)) (now (sheet .entry)) (now (answer .entry)) ⌝ }
 {
-    if too_short(sheet.len(), answer.len()) {
-        return TOO_SHORT;
-    }
-    hand_back(sheet::exchange(read_sheet(sheet), i, j), sheet, answer)
+    let request = Request::Exchange { i, j };
+    reply(Call::Repair { request }, b"", sheet, answer)
 }
 
 // Sets the check digits of the held text.
 #[no_mangle]
 pub extern "C" fn stitchbarrow_fill(sheet: &mut [u8], answer: &mut [u8]) -> u8
-    ensures { λ r. ⌜ record { code = r; sheet = now (sheet .exit); answer = now (answer .exit) } ≡ sheetReply (repairOf (sheetAt (now (sheet .entry))) Fill) (now (sheet .entry)) (now (answer .entry)) ⌝ }
+    ensures { λ r. ⌜ record { code = r; sheet = now (sheet .exit); answer = now (answer .exit) } ≡ sheetReply (repairOf (sheetAt (now (sheet .entry))) Request.Fill) (now (sheet .entry)) (now (answer .entry)) ⌝ }
 {
-    if too_short(sheet.len(), answer.len()) {
-        return TOO_SHORT;
-    }
-    hand_back(sheet::fill(read_sheet(sheet)), sheet, answer)
+    let request = Request::Fill;
+    reply(Call::Repair { request }, b"", sheet, answer)
 }

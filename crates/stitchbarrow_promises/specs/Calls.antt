@@ -1,8 +1,9 @@
 -- Calls one after the other on the same two slices: each reads the bytes that the one before it left.
 use mathlib.Core.List.{List, [], _∷_}
-use Rattle.sheet.specs.Repairs.{Request, repairOf}
+use Rattle.sheet.specs.declared.Request.{Request}
+use Rattle.sheet.specs.Repairs.{repairOf}
 use Rattle.stitchbarrow.specs.Sheets.{sheetAt}
 use Rattle.stitchbarrow.specs.Reply.{SheetReply, sheetReply}
 
 unfoldable pub repliesAfter : SheetReply → List Request → SheetReply
 repliesAfter r [] = r

@@ -5,21 +5,22 @@ use mathlib.Core.Bool.{true}
 use mathlib.Core.List.{List, [], _∷_, _++_}
 use mathlib.Core.Logic.{_≢_}
 use lib.ListN.{length, drop}
-use Rattle.iban.specs.Held.{padded}
+use Rattle.iban.specs.Format.{padded}
 use Rattle.batch.specs.Number.{Bytes}
 use Rattle.sheet.specs.Sheets.{emptySheet}
 use Rattle.sheet.specs.Load.{summed, loadOf, standing}
-use Rattle.sheet.specs.Repairs.{Request, repairOf}
-use Rattle.sheet.specs.Calls.{callsAfter}
+use Rattle.sheet.specs.declared.Request.{Request}
+use Rattle.sheet.specs.Repairs.{repairOf}
+use Rattle.sheet_promises.specs.Calls.{callsAfter}
 use Rattle.sheet.specs.declared.Sheet.{Sheet}
 use Rattle.sheet.specs.declared.Repaired.{Repaired}
 use Rattle.sheet.proofs.Sheets.{stood}
-use Rattle.sheet.proofs.Promises.{load-keeps, repair-keeps, loaded-stands, repaired-stands}
+use Rattle.sheet_promises.proofs.Promises.{load-keeps, repair-keeps, loaded-stands, repaired-stands}
 use Rattle.stitchbarrow.specs.Sheets.{sheetSize, sheetAt, sheetBytes}
 use Rattle.stitchbarrow.specs.Reply.{sheetReply}
-use Rattle.stitchbarrow.specs.Calls.{repliesAfter}
-use Rattle.stitchbarrow.proofs.Sheets.{sheet-back, lent-back}
-use Rattle.stitchbarrow.proofs.Replies.{refused-kept, next-call}
+use Rattle.stitchbarrow_promises.specs.Calls.{repliesAfter}
+use Rattle.stitchbarrow_promises.proofs.Sheets.{sheet-back, lent-back}
+use Rattle.stitchbarrow_promises.proofs.Replies.{refused-kept, next-call}
 
 -- The sheet that any 46 bytes write has these bytes: what was not changed comes back as lent.
 pub as-lent : (b : List ℕ) → Bytes b → sheetSize ≤ length b → sheetBytes (sheetAt b) ++ drop sheetSize b ≡ b

@@ -1,0 +1,2 @@
+-- The definitions that the promises of `stitchbarrow` cite.
+pub mod Calls
