@@ -2,7 +2,7 @@
 use Prim.Native.Nat.{ℕ, zero, suc, _+_, _-_, _^_, _≤_, _<_}
 use mathlib.Core.Path.{_≡_, refl, sym, ap, subst, _∙_}
 use mathlib.Core.Bool.{true, false}
-use mathlib.Core.List.{List, [], _∷_, _++_}
+use mathlib.Core.List.{List, [], _∷_, _++_, append-nil, append-assoc}
 use native.Mathlib.Nat.{sub-zero, zero-sub, suc-sub-suc, sub-add-eq, add-zero}
 use native.Mathlib.Numerals.{add-one}
 use native.Mathlib.Omega.{arith}
@@ -17,11 +17,16 @@ use Rattle.batch.specs.declared.Stop.the-variants.{Finished, Budget, Room, Cut,
 use Rattle.report.specs.Text.{atStart}
 use Rattle.turn.specs.declared.Turned.{Turned}
 use Rattle.turn.specs.Turn.{roomOf, callLines, Turning, turnOf, turningOf}
-use Rattle.turn.specs.Stream.{Event, more, call, Stream, started, called, next, feed}
+use Rattle.turn.specs.Stream.{Event, more, call, Stream, started, called, next, feed, input}
 use Rattle.turn.proofs.Laws.{Sized, sized, goes, room-least, room-in}
 use Rattle.judge.specs.declared.State.{State}
 use Rattle.judge.specs.declared.Next.{Next}
-use Rattle.judge.specs.Run.{wayOf, waiting, Good, Is, budget, callWith, Judging, Shifted, Reached, Called, Led, passed, Moved, Roomy}
+use Rattle.judge.specs.declared.Way.{Way}
+use Rattle.judge.specs.declared.Way.the-variants.{Again, Read, End}
+use Rattle.judge.specs.declared.Ahead.{Ahead}
+use Rattle.judge.specs.declared.Ahead.the-variants.{Turn, LastLine, Nothing}
+use Rattle.judge.specs.Run.{wayAfter, waiting, Good, Is, Reached, Called, Led, cameIn, TurnAdds, first, Turns, begin, then, Served}
+use Rattle.judge.specs.Inner.{records, callWith, Judging, Shifted, passed, Moved, More, Roomy}
 
 pub held-length : (buf : List ℕ) (s : State) → Good buf s → length (waiting buf s) ≡ s .end - s .at
 held-length buf s g = length-take-le (s .end - s .at) (drop (s .at) buf) (omega (arith, length-drop (s .at) buf, g .order, g .within))
@@ -38,7 +43,7 @@ left-held buf at end n = sym (drop-take n (end - at) (drop at buf) ∙ rw (drop-
 
 -- one call on what is held, from what `turn` ensures
 module _ (buf out text₀ : List ℕ) (s : State) (g : Good buf s) (r : Turned) (out₁ text₁ : List ℕ)
-    (q : turningOf r out₁ text₁ ≡ turnOf (waiting buf s) (s .offset) out text₀ budget) where
+    (q : turningOf r out₁ text₁ ≡ turnOf (waiting buf s) (s .offset) out text₀ records) where
   abbrev c : Call
   c = callWith out text₀
 
@@ -81,8 +86,11 @@ module _ (buf out text₀ : List ℕ) (s : State) (g : Good buf s) (r : Turned) 
   after =
       record { at = s .at + r .read; end = s .end; start = s .start; offset = s .offset + r .read; judged = s .judged + r .judged; stop = r .stop }
 
-  is-called : (S : Stream) → Is S buf s → Is (called c S) buf after
-  is-called S i =
+  the-lines : take (r .text) text₁ ≡ callLines o
+  the-lines = rw (the-text, the-written) (take-at (callLines o) (drop (length (callLines o)) text₀) (length (callLines o)) refl)
+
+  is-called : (S : Stream) (wrote : List ℕ) → Is S wrote buf s → Is (called c S) (wrote ++ take (r .text) text₁) buf after
+  is-called S wrote i =
       let e : callOf (S .held) (S .offset) (c .out) (c .budget) ≡ o = rw (i .bytes, i .offset) in
       record {
         bytes = rw (e, i .bytes, the-read) (sym (left-held buf (s .at) (s .end) (o .read)));
@@ -90,6 +98,7 @@ module _ (buf out text₀ : List ℕ) (s : State) (g : Good buf s) (r : Turned) 
         judged = rw (e, i .judged, the-judged);
         read = rw e (omega (arith, i .read, the-read));
         stop = rw (e, the-stop);
+        text = rw (e, i .text, the-lines);
       }
 
   pub judging : length text₁ ≡ length text₀ → Judging buf c text₁ s after (r .text)
@@ -97,7 +106,6 @@ module _ (buf out text₀ : List ℕ) (s : State) (g : Good buf s) (r : Turned) 
       record {
         is = is-called;
         start = refl;
-        wrote = rw (the-text, the-written) (take-at (callLines o) (drop (length (callLines o)) text₀) (length (callLines o)) refl);
         inside = omega (arith, the-written, l, ap length the-text, length-append (callLines o) (drop (length (callLines o)) text₀), length-drop (length (callLines o)) text₀);
         none = λ e. omega (arith, z .none (sym the-stop ∙ e), the-read, held-length buf s g, g .order);
         short = λ e. omega (arith, z .short (sym the-stop ∙ e), the-read, held-length buf s g, g .order);
@@ -156,53 +164,76 @@ shifted buf₀ buf s g l e =
     }
 
 -- the same state, with other bytes past those that are held
-is-moved : (S : Stream) (buf₀ buf : List ℕ) (s r : State) → waiting buf r ≡ waiting buf₀ s → r .start ≡ s .start → r .offset ≡ s .offset
-    → r .judged ≡ s .judged → r .stop ≡ s .stop → Is S buf₀ s → Is S buf r
-is-moved S buf₀ buf s r h a f j p i =
+is-moved : (S : Stream) (wrote buf₀ buf : List ℕ) (s r : State) → Shifted buf₀ buf s r → Is S wrote buf₀ s → Is S wrote buf r
+is-moved S wrote buf₀ buf s r h i =
     record {
-      bytes = i .bytes ∙ sym h;
-      offset = i .offset ∙ sym f;
-      judged = i .judged ∙ sym j;
-      read = omega (arith, i .read, f, a);
-      stop = i .stop ∙ sym p;
+      bytes = i .bytes ∙ sym (h .same);
+      offset = i .offset ∙ sym (h .offset);
+      judged = i .judged ∙ sym (h .judged);
+      read = omega (arith, i .read, h .offset, h .start);
+      stop = i .stop ∙ sym (h .stop);
+      text = i .text;
     }
 
-pub called-moved : (buf₀ buf : List ℕ) (s r : State) → waiting buf r ≡ waiting buf₀ s → r .start ≡ s .start → r .offset ≡ s .offset
-    → r .judged ≡ s .judged → r .stop ≡ s .stop → Good buf r → Called buf₀ s → Called buf r
-called-moved buf₀ buf s r h a f j p g k =
+called-moved : (came wrote buf₀ buf : List ℕ) (s r : State) → Shifted buf₀ buf s r → Called came wrote buf₀ s → Called came wrote buf r
+called-moved came wrote buf₀ buf s r h k =
     record {
       events = k .events;
       last = k .last;
+      all = k .all;
       is =
-          subst (λ (x : ℕ). Is (called (k .last) (feed (k .events) (started x))) buf r) (sym a)
-          (is-moved (called (k .last) (feed (k .events) (started (s .start)))) buf₀ buf s r h a f j p (k .is));
-      ends = rw p (k .ends);
-      good = g;
+          subst (λ (x : ℕ). Is (called (k .last) (feed (k .events) (started x))) wrote buf r) (sym (h .start))
+          (is-moved (called (k .last) (feed (k .events) (started (s .start)))) wrote buf₀ buf s r h (k .is));
+      ends = rw (h .stop) (k .ends);
+      good = h .good;
     }
 
-pub feed-more : (es : List Event) (e : Event) (S : Stream) → feed (es ++ (e ∷ [])) S ≡ next e (feed es S)
+-- one event more: the run goes on by it, and its bytes came after the others
+feed-more : (es : List Event) (e : Event) (S : Stream) → feed (es ++ (e ∷ [])) S ≡ next e (feed es S)
 unfolding feed
 feed-more [] e S = refl
 feed-more (d ∷ es) e S = feed-more es e (next d S)
 
-pub called-reached : (buf : List ℕ) (s : State) → Called buf s → Reached buf s
-called-reached buf s k =
-    record { events = k .events ++ (call (k .last) ∷ []); is = rw (feed-more (k .events) (call (k .last)) (started (s .start))) (k .is); good = k .good }
+input-more : (es : List Event) (e : Event) → input (es ++ (e ∷ [])) ≡ input es ++ input (e ∷ [])
+unfolding input
+input-more [] e = refl
+input-more (more b ∷ es) e = rw append-assoc (ap (λ (l : List ℕ). b ++ l) (input-more es e))
+input-more (call c ∷ es) e = input-more es e
+
+input-bytes : (es : List Event) (b : List ℕ) → input (es ++ (more b ∷ [])) ≡ input es ++ b
+unfolding input
+input-bytes es b = input-more es (more b) ∙ rw append-nil
+
+input-call : (es : List Event) (c : Call) → input (es ++ (call c ∷ [])) ≡ input es
+unfolding input
+input-call es c = input-more es (call c) ∙ rw append-nil
+
+called-reached : (came wrote buf : List ℕ) (s : State) → Called came wrote buf s → Reached came wrote buf s
+called-reached came wrote buf s k =
+    record {
+      events = k .events ++ (call (k .last) ∷ []);
+      all = input-call (k .events) (k .last) ∙ k .all;
+      is = rw (feed-more (k .events) (call (k .last)) (started (s .start))) (k .is);
+      good = k .good;
+    }
 
 -- n bytes more stand after those that are held
 abbrev pub longer : State → ℕ → State
 longer s n = record { at = s .at; end = s .end + n; start = s .start; offset = s .offset; judged = s .judged; stop = s .stop }
 
-pub reached-more : (buf : List ℕ) (s : State) (n : ℕ) → s .end + n ≤ length buf → Reached buf s → Reached buf (longer s n)
-reached-more buf s n h k =
-    let S = feed (k .events) (started (s .start)) in
+reached-more : (came wrote buf : List ℕ) (s : State) (n : ℕ) → s .end + n ≤ length buf → Reached came wrote buf s
+    → Reached (came ++ take n (drop (s .end + n - n) buf)) wrote buf (longer s n)
+reached-more came wrote buf s n h k =
+    let d : s .end + n - n ≡ s .end = omega arith in
     let b = take n (drop (s .end) buf) in
     let i = k .is in
     let g = k .good in
     let e : s .end + n - s .at ≡ s .end - s .at + n = omega (arith, g .order) in
     let f : s .at + (s .end - s .at) ≡ s .end = omega (arith, g .order) in
-    record {
+    rw d
+    (record {
       events = k .events ++ (more b ∷ []);
+      all = input-bytes (k .events) b ∙ ap (λ (l : List ℕ). l ++ b) (k .all);
       is = rw (feed-more (k .events) (more b) (started (s .start)))
           (record {
             bytes = rw (e, take-add, drop-drop, f) (ap (λ (l : List ℕ). l ++ b) (i .bytes));
@@ -210,124 +241,257 @@ reached-more buf s n h k =
             judged = i .judged;
             read = i .read;
             stop = i .stop;
+            text = i .text;
           });
       good = record { order = omega (arith, g .order); within = h; counts = g .counts };
-    }
+    })
+
+-- no two cases of an enum are equal
+pub nothing-is-last : Nothing ≡ LastLine → ⊥
+nothing-is-last e = let z : _≡_ {A = ℕ} 0 1 = cc in absurd (omega arith)
+
+pub turn-is-last : Turn ≡ LastLine → ⊥
+turn-is-last e = let z : _≡_ {A = ℕ} 0 1 = cc in absurd (omega arith)
+
+pub last-is-turn : LastLine ≡ Turn → ⊥
+last-is-turn e = let z : _≡_ {A = ℕ} 0 1 = cc in absurd (omega arith)
+
+pub nothing-is-turn : Nothing ≡ Turn → ⊥
+nothing-is-turn e = let z : _≡_ {A = ℕ} 0 1 = cc in absurd (omega arith)
+
+again-is-read : Again ≡ Read → ⊥
+again-is-read e = let z : _≡_ {A = ℕ} 0 1 = cc in absurd (omega arith)
+
+end-is-read : End ≡ Read → ⊥
+end-is-read e = let z : _≡_ {A = ℕ} 0 1 = cc in absurd (omega arith)
 
 -- bytes read in past those that are held, once these are at the front
-module _ (buf₀ buf₁ came : List ℕ) (s t : State) (k : Called buf₀ s) (h : Shifted buf₀ buf₁ s t)
-    (l : length came ≡ length (midOf (t .end) (length buf₁ - t .end) buf₁)) where
+module _ (buf₀ buf₁ part : List ℕ) (s t : State) (h : Shifted buf₀ buf₁ s t)
+    (l : length part ≡ length (midOf (t .end) (length buf₁ - t .end) buf₁)) where
   abbrev read : List ℕ
-  read = putMid (t .end) (length buf₁ - t .end) buf₁ came
-
-  still-held : waiting read t ≡ waiting buf₁ t
-  still-held = rw (h .at, sub-zero) (take-put (t .end) (length buf₁ - t .end) buf₁ came (h .good .within))
+  read = putMid (t .end) (length buf₁ - t .end) buf₁ part
 
   same-size : length read ≡ length buf₁
-  same-size = same-len-mid (t .end) (length buf₁ - t .end) buf₁ came l
+  same-size = same-len-mid (t .end) (length buf₁ - t .end) buf₁ part l
 
-  still-called : Called read t
-  still-called =
-      called-moved buf₀ read s t (still-held ∙ h .same) (h .start) (h .offset) (h .judged) (h .stop)
-      (record { order = h .good .order; within = omega (arith, h .good .within, same-size); counts = h .good .counts }) k
+  still-held : waiting read t ≡ waiting buf₁ t
+  still-held = rw (h .at, sub-zero) (take-put (t .end) (length buf₁ - t .end) buf₁ part (h .good .within))
 
-  pub led-failed : Led read (record { s = t; how = 3 })
-  led-failed = record { reached = called-reached read t still-called; ended = λ e. absurd (omega arith) }
-
-  pub led-ended : Led read (record { s = t; how = 2 })
-  led-ended = record { reached = called-reached read t still-called; ended = λ e. still-called }
-
-  pub led-on : (n : ℕ) → t .end + n ≤ length read → Led read (record { s = longer t n; how = 0 })
-  led-on n f = record { reached = reached-more read t n f (called-reached read t still-called); ended = λ e. absurd (omega arith) }
-
-pub moved-more : (buf₀ buf : List ℕ) (s t : State) (n : ℕ) → Shifted buf₀ buf s t → 0 < n → Moved s (record { s = longer t n; how = 0 })
-moved-more buf₀ buf s t n h p = record { moved = λ e. omega (arith, h .offset, h .at, h .end) }
-
-pub not-moved : (s r : State) (how : ℕ) → 0 < how → Moved s (record { s = r; how = how })
-not-moved s r how p = record { moved = λ e. absurd (omega (arith, e)) }
-
--- a call in the program
-module _ (buf : List ℕ) (c : Call) (text : List ℕ) (s r : State) (n : ℕ) (j : Judging buf c text s r n) (k : Reached buf s) where
-  here : Is (called c (feed (k .events) (started (r .start)))) buf r
-  here =
-      subst (λ (x : ℕ). Is (called c (feed (k .events) (started x))) buf r) (sym (j .start))
-      (j .is (feed (k .events) (started (s .start))) (k .is))
-
-  pub judged-reached : Reached buf r
-  judged-reached =
+  still-shifted : Shifted buf₀ read s t
+  still-shifted =
       record {
-        events = k .events ++ (call c ∷ []);
-        is = rw (feed-more (k .events) (call c) (started (r .start))) here;
-        good = j .good;
+        same = still-held ∙ h .same;
+        at = h .at;
+        end = h .end;
+        start = h .start;
+        offset = h .offset;
+        judged = h .judged;
+        stop = h .stop;
+        good = record { order = h .good .order; within = omega (arith, h .good .within, same-size); counts = h .good .counts };
       }
 
-  pub judged-called : pauses (r .stop) ≡ false → Called buf r
-  judged-called p =
-      record { events = k .events; last = c; is = here; ends = p; good = j .good }
+  still-called : (came wrote : List ℕ) → Called came wrote buf₀ s → Called came wrote read t
+  still-called came wrote k = called-moved came wrote buf₀ read s t still-shifted k
 
-pub moved-after : (buf : List ℕ) (c : Call) (text : List ℕ) (s r : State) (k : ℕ) (n : Next) → Judging buf c text s r k → Moved r n → Moved s n
-moved-after buf c text s r k n j m = record { moved = λ e. omega (arith, m .moved e, j .later, j .total) }
+  still-reached : (came wrote : List ℕ) → Called came wrote buf₀ s → Reached came wrote read t
+  still-reached came wrote k = called-reached came wrote read t (still-called came wrote k)
 
-does-pause : (s : Stop) → wayOf s ≡ 0 → pauses s ≡ true
-does-pause Finished e = absurd (omega arith)
+  pub more-failed : (w : ℕ) → More buf₀ s w read (record { s = t; ahead = Nothing; wrote = w; came = 0 })
+  more-failed w =
+      record {
+        led = λ came wrote k. rw append-nil (record { reached = still-reached came wrote k; ended = λ e. absurd (nothing-is-last e) });
+        start = h .start;
+        wrote = refl;
+      }
+
+  pub more-ended : (w : ℕ) → More buf₀ s w read (record { s = t; ahead = LastLine; wrote = w; came = 0 })
+  more-ended w =
+      record {
+        led = λ came wrote k. rw append-nil (record { reached = still-reached came wrote k; ended = λ e. still-called came wrote k });
+        start = h .start;
+        wrote = refl;
+      }
+
+  pub more-came : (w n : ℕ) → t .end + n ≤ length read → More buf₀ s w read (record { s = longer t n; ahead = Turn; wrote = w; came = n })
+  more-came w n f =
+      record {
+        led =
+            λ came wrote k.
+            record { reached = reached-more came wrote read t n f (still-reached came wrote k); ended = λ e. absurd (turn-is-last e) };
+        start = h .start;
+        wrote = refl;
+      }
+
+pub moved-more : (buf₀ buf : List ℕ) (s t : State) (w n : ℕ) → Shifted buf₀ buf s t → 0 < n
+    → Moved s (record { s = longer t n; ahead = Turn; wrote = w; came = n })
+moved-more buf₀ buf s t w n h p = record { moved = λ e. omega (arith, h .offset, h .at, h .end) }
+
+pub not-moved : (s : State) (n : Next) → (n .ahead ≡ Turn → ⊥) → Moved s n
+not-moved s n p = record { moved = λ e. absurd (p e) }
+
+-- a call in the program
+module _ (buf : List ℕ) (c : Call) (text : List ℕ) (s r : State) (n : ℕ) (j : Judging buf c text s r n) where
+  module _ (came wrote : List ℕ) (k : Reached came wrote buf s) where
+    here : Is (called c (feed (k .events) (started (r .start)))) (wrote ++ take n text) buf r
+    here =
+        subst (λ (x : ℕ). Is (called c (feed (k .events) (started x))) (wrote ++ take n text) buf r) (sym (j .start))
+        (j .is (feed (k .events) (started (s .start))) wrote (k .is))
+
+    judged-called : pauses (r .stop) ≡ false → Called came (wrote ++ take n text) buf r
+    judged-called p = record { events = k .events; last = c; all = k .all; is = here; ends = p; good = j .good }
+
+    judged-reached : Reached came (wrote ++ take n text) buf r
+    judged-reached =
+        record {
+          events = k .events ++ (call c ∷ []);
+          all = input-call (k .events) c ∙ k .all;
+          is = rw (feed-more (k .events) (call c) (started (r .start))) here;
+          good = j .good;
+        }
+
+  -- a turn that reads nothing
+  pub turned-call : (a : Ahead) → (a ≡ LastLine → pauses (r .stop) ≡ false)
+      → TurnAdds buf s buf text (record { s = r; ahead = a; wrote = n; came = 0 })
+  turned-call a p =
+      record {
+        led =
+            λ came wrote k.
+            rw append-nil (record { reached = judged-reached came wrote k; ended = λ e. judged-called came wrote k (p e) });
+        start = j .start;
+      }
+
+  -- and one that reads on
+  pub turned-more : (buf₁ : List ℕ) (m : Next) → pauses (r .stop) ≡ false → More buf r n buf₁ m → TurnAdds buf s buf₁ text m
+  turned-more buf₁ m p g =
+      record {
+        led =
+            λ came wrote k.
+            subst (λ (x : ℕ). Led (came ++ cameIn buf₁ m) (wrote ++ take x text) buf₁ m) (sym (g .wrote))
+            (g .led came (wrote ++ take n text) (judged-called came wrote k p));
+        start = g .start ∙ j .start;
+      }
+
+  pub moved-after : (m : Next) → Moved r m → Moved s m
+  moved-after m g = record { moved = λ e. omega (arith, g .moved e, j .later, j .total) }
+
+-- what follows a stop
+does-pause : (s : Stop) → wayAfter s ≡ Again → pauses s ≡ true
+does-pause Finished e = absurd (again-is-read (sym e))
 does-pause Budget e = refl
 does-pause Room e = refl
-does-pause Cut e = absurd (omega arith)
-does-pause Offset e = absurd (omega arith)
-does-pause Long e = absurd (omega arith)
+does-pause Cut e = absurd (again-is-read (sym e))
+does-pause Offset e = let z : _≡_ {A = ℕ} 0 1 = cc in absurd (omega arith)
+does-pause Long e = let z : _≡_ {A = ℕ} 0 1 = cc in absurd (omega arith)
 
-pub moved-call : (buf out text₀ text : List ℕ) (s r : State) (k how : ℕ) → Roomy buf out text₀ → Judging buf (callWith out text₀) text s r k
-    → how ≡ wayOf (r .stop) → Moved s (record { s = r; how = how })
-moved-call buf out text₀ text s r k how g j w =
+pub reads-on : (s : Stop) → wayAfter s ≡ Read → pauses s ≡ false
+reads-on Finished e = refl
+reads-on Budget e = absurd (again-is-read e)
+reads-on Room e = absurd (again-is-read e)
+reads-on Cut e = refl
+reads-on Offset e = refl
+reads-on Long e = refl
+
+pub ends : (s : Stop) → wayAfter s ≡ End → pauses s ≡ false
+ends Finished e = refl
+ends Budget e = let z : _≡_ {A = ℕ} 0 1 = cc in absurd (omega arith)
+ends Room e = let z : _≡_ {A = ℕ} 0 1 = cc in absurd (omega arith)
+ends Cut e = refl
+ends Offset e = refl
+ends Long e = refl
+
+pub has-room : (s : Stop) (at end size : ℕ) → (s ≡ Finished → at ≡ end) → (s ≡ Cut → end < at + (4 + headLimit)) → 4 + headLimit ≤ size
+    → wayAfter s ≡ Read → end < at + size
+has-room Finished at end size f g h e = omega (arith, f refl)
+has-room Budget at end size f g h e = absurd (again-is-read e)
+has-room Room at end size f g h e = absurd (again-is-read e)
+has-room Cut at end size f g h e = omega (arith, g refl)
+has-room Offset at end size f g h e = absurd (end-is-read e)
+has-room Long at end size f g h e = absurd (end-is-read e)
+
+pub moved-call : (buf out text₀ text : List ℕ) (s r : State) (k : ℕ) → Roomy buf out text₀ → Judging buf (callWith out text₀) text s r k
+    → wayAfter (r .stop) ≡ Again → Moved s (record { s = r; ahead = Turn; wrote = k; came = 0 })
+moved-call buf out text₀ text s r k g j w =
     let n = roomOf (length out) (length text₀) in
     let l = length-take-le n out (room-in (length out) (length text₀) n refl) in
     let v = room-least (length out) (length text₀) (g .verdict-fits) (g .line-fits) in
-    record { moved = λ e. omega (arith, j .grew (rw l v) (does-pause (r .stop) (sym w ∙ e)), j .total) }
+    record { moved = λ e. omega (arith, j .grew (rw l v) (does-pause (r .stop) w), j .total) }
 
--- what follows a stop
-pub no-pause : (s : Stop) → 0 < wayOf s → pauses s ≡ false
-no-pause Finished h = refl
-no-pause Budget h = absurd (omega arith)
-no-pause Room h = absurd (omega arith)
-no-pause Cut h = refl
-no-pause Offset h = refl
-no-pause Long h = refl
-
-pub has-room : (s : Stop) (at end size : ℕ) → (s ≡ Finished → at ≡ end) → (s ≡ Cut → end < at + (4 + headLimit)) → 4 + headLimit ≤ size → wayOf s ≡ 1
-    → end < at + size
-has-room Finished at end size f g h e = omega (arith, f refl)
-has-room Budget at end size f g h e = absurd (omega arith)
-has-room Room at end size f g h e = absurd (omega arith)
-has-room Cut at end size f g h e = omega (arith, g refl)
-has-room Offset at end size f g h e = absurd (omega arith)
-has-room Long at end size f g h e = absurd (omega arith)
-
-at-start : (buf : List ℕ) (start : ℕ) → Reached buf (record { at = 0; end = 0; start = start; offset = start; judged = 0; stop = Finished })
-unfolding feed
-at-start buf start =
+-- turns lead from the start to where they are
+led-start : (start : ℕ) (buf : List ℕ) → Led [] [] buf (first start)
+unfolding feed input
+led-start start buf =
     record {
-      events = [];
-      is = record { bytes = refl; offset = refl; judged = refl; read = add-zero start; stop = refl };
-      good = record { order = omega arith; within = omega arith; counts = omega arith };
+      reached =
+          record {
+            events = [];
+            all = refl;
+            is = record { bytes = refl; offset = refl; judged = refl; read = add-zero start; stop = refl; text = refl };
+            good = record { order = omega arith; within = omega arith; counts = omega arith };
+          };
+      ended = λ e. absurd (turn-is-last e);
     }
 
-pub led-start : (buf : List ℕ) (start : ℕ) → Led buf (record { s = record { at = 0; end = 0; start = start; offset = start; judged = 0; stop = Finished }; how = 0 })
-led-start buf start = record { reached = at-start buf start; ended = λ e. absurd (omega arith) }
+pub turns-led : {start : ℕ} {came wrote buf : List ℕ} {n : Next} → Turns start came wrote buf n → Led came wrote buf n
+turns-led {start = start} (begin buf) = led-start start buf
+turns-led (then {came} {wrote} buf₁ text₁ m t a g) = g .led came wrote (turns-led t .reached)
 
--- the turns left, where the program is to go on
-abbrev pub left : ℕ → ℕ → ℕ
-left zero x = x
-left (suc k) x = 0
+pub turns-from : {start : ℕ} {came wrote buf : List ℕ} {n : Next} → Turns start came wrote buf n → n .s .start ≡ start
+turns-from (begin buf) = refl
+turns-from (then buf₁ text₁ m t a g) = g .start ∙ turns-from t
 
-pub fewer : (most : ℕ) (s : State) (n : Next) (how : ℕ) → how ≡ 0 → passed s < most → Moved s n
-    → left (n .how) (suc (most - passed (n .s))) < left how (suc (most - passed s))
-fewer most s n how z p m = rw z (go (n .how) refl)
+-- the loop of turns
+pub record Going (start : ℕ) (buf₀ out₀ text₀ buf out text : List ℕ) (n : Next) : Type 0 where
+  pub came : List ℕ
+  pub wrote : List ℕ
+  pub turns : Turns start came wrote buf n
+  pub fits : n .s .offset < 2 ^ 64
+  pub same-buf : length buf ≡ length buf₀
+  pub same-out : length out ≡ length out₀
+  pub same-text : length text ≡ length text₀
+
+pub going-start : (start : ℕ) (buf out text : List ℕ) → start < 2 ^ 64 → Going start buf out text buf out text (first start)
+going-start start buf out text h =
+    record { came = []; wrote = []; turns = begin buf; fits = h; same-buf = refl; same-out = refl; same-text = refl }
+
+module _ (start : ℕ) (buf₀ out₀ text₀ buf out text : List ℕ) (n : Next) (g : Going start buf₀ out₀ text₀ buf out text n) where
+  pub going-good : Good buf (n .s)
+  going-good = turns-led (g .turns) .reached .good
+
+  pub going-on : (buf₁ out₁ text₁ : List ℕ) (m : Next) → n .ahead ≡ Turn → TurnAdds buf (n .s) buf₁ text₁ m → m .s .offset < 2 ^ 64
+      → length buf₁ ≡ length buf → length out₁ ≡ length out → length text₁ ≡ length text → Going start buf₀ out₀ text₀ buf₁ out₁ text₁ m
+  going-on buf₁ out₁ text₁ m a t f b o x =
+      record {
+        came = g .came ++ cameIn buf₁ m;
+        wrote = g .wrote ++ take (m .wrote) text₁;
+        turns = then buf₁ text₁ m (g .turns) a t;
+        fits = f;
+        same-buf = b ∙ g .same-buf;
+        same-out = o ∙ g .same-out;
+        same-text = x ∙ g .same-text;
+      }
+
+  pub going-over : (n .ahead ≡ Turn → ⊥) → Served start buf n
+  going-over o = record { came = g .came; wrote = g .wrote; turns = g .turns; over = o }
+
+  pub roomy-kept : Roomy buf₀ out₀ text₀ → Roomy buf out text
+  roomy-kept r =
+      record {
+        record-fits = omega (arith, r .record-fits, g .same-buf);
+        verdict-fits = omega (arith, r .verdict-fits, g .same-out);
+        line-fits = omega (arith, r .line-fits, g .same-text);
+      }
+
+-- the turns left, where one follows
+abbrev pub left : Ahead → ℕ → ℕ
+left Turn x = x
+left LastLine x = 0
+left Nothing x = 0
+
+pub fewer : (most : ℕ) (s : State) (n : Next) (a : Ahead) → a ≡ Turn → passed s < most → Moved s n
+    → left (n .ahead) (suc (most - passed (n .s))) < left a (suc (most - passed s))
+fewer most s n a z p m = rw z (go (n .ahead) refl)
   where
-    go : (k : ℕ) → n .how ≡ k → left k (suc (most - passed (n .s))) < suc (most - passed s)
-    go zero e = omega (arith, m .moved e)
-    go (suc k) e = omega arith
-
-pub roomy-kept : (buf₀ out₀ text₀ buf out text : List ℕ) → Roomy buf₀ out₀ text₀ → length buf ≡ length buf₀ → length out ≡ length out₀ → length text ≡ length text₀
-    → Roomy buf out text
-roomy-kept buf₀ out₀ text₀ buf out text g a b c =
-    record { record-fits = omega (arith, g .record-fits); verdict-fits = omega (arith, g .verdict-fits); line-fits = omega (arith, g .line-fits) }
+    go : (x : Ahead) → n .ahead ≡ x → left x (suc (most - passed (n .s))) < suc (most - passed s)
+    go Turn e = omega (arith, m .moved e)
+    go LastLine e = omega arith
+    go Nothing e = omega arith

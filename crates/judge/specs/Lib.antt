@@ -1,2 +1,3 @@
 -- The definitions that the contracts of `judge` cite.
 pub mod Run
+pub mod Inner

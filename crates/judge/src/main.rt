@@ -1,25 +1,38 @@
 // The program: reads a batch from standard input and writes its verdicts as text.
+//
+// Turns follow each other until the input ends, or fails, or cannot be gone on with. A turn judges the whole records of what its buffer
+// holds, hands their lines to one write and, where no whole record is left, reads once. No contract can say which bytes a read gives or
+// a write takes, so each function says what it handed over: the lines stand at the start of `text`, the bytes that came at the end of
+// what `buf` holds. `step` says that each turn adds both to what went before, and proofs/Promises.antt that in the end all the lines
+// are what SCOPE asks for all the bytes.
 ghost use mathlib.Core.Path.{_≡_};
 ghost use Prim.Native.Nat.{_+_, _≤_, _<_};
 ghost use lib.ListN.{length, take, drop};
-ghost use Rattle.judge.specs.Run.{wayOf, Good, callWith, Judging, Shifted, Reached, Called, Led, Moved, Roomy};
+ghost use Rattle.report.specs.Text.{lastMost};
+ghost use Rattle.judge.specs.Run.{wayAfter, Good, TurnAdds, Served, Closing};
+ghost use Rattle.judge.specs.Inner.{callWith, Judging, Shifted, More, Moved, Roomy};
 use batch::Stop;
 use report::Offset;
 
-// What follows a stop: another call, more input, or the end. Where input or output fails, there is no last line.
-const AGAIN: u8 = 0;
+// How many records a call can judge: its verdicts and their lines have room for so many.
+const RECORDS: usize = 1024;
 
-const READ: u8 = 1;
+// What follows a stop: another call, more input, or the end.
+enum Way {
+    Again,
+    Read,
+    End,
+}
 
-const END: u8 = 2;
-
-const FAILED: u8 = 3;
-
-// More records than a buffer holds.
-const BUDGET: u64 = 65536;
+// What follows a turn: another turn, the last line, or nothing, since input or output failed.
+enum Ahead {
+    Turn,
+    LastLine,
+    Nothing,
+}
 
 // The buffer's bytes from `at` up to `end` are not judged yet; `offset` is the stream offset of the first of them, `start` that of
-// the input's first byte.
+// the input's first byte. `stop` is why the last call stopped.
 struct State {
     at: usize,
     end: usize,
@@ -35,22 +48,25 @@ struct Judged {
     text: usize,
 }
 
-// A state, and what to do next.
+// A state, what follows, and what the turn before it did: the first `wrote` bytes of the text were handed to a write, and the last
+// `came` bytes that are held came in by a read.
 struct Next {
     s: State,
-    how: u8,
+    ahead: Ahead,
+    wrote: usize,
+    came: usize,
 }
 
-fn way(stop: Stop) -> u8
-    ensures { λ r. ⌜ r ≡ wayOf stop ⌝ }
+fn way_after(stop: Stop) -> Way
+    ensures { λ r. ⌜ r ≡ wayAfter stop ⌝ }
 {
     match stop {
-        Stop::Finished => READ,
-        Stop::Budget => AGAIN,
-        Stop::Room => AGAIN,
-        Stop::Cut => READ,
-        Stop::Offset => END,
-        Stop::Long => END,
+        Stop::Finished => Way::Read,
+        Stop::Budget => Way::Again,
+        Stop::Room => Way::Again,
+        Stop::Cut => Way::Read,
+        Stop::Offset => Way::End,
+        Stop::Long => Way::End,
     }
 }
 
@@ -61,7 +77,7 @@ fn judge_held(buf: &[u8], out: &mut [u8], text: &mut [u8], s: State) -> Judged
 {
     let at = s.at;
     let end = s.end;
-    let t = turn::turn(&buf[at..end], s.offset, out, text, BUDGET);
+    let t = turn::turn(&buf[at..end], s.offset, out, text, RECORDS as u64);
     let stop = t.stop;
     let u = State {
         at: at + t.read,
@@ -113,10 +129,10 @@ fn read_some(part: &mut [u8]) -> isize
 }
 
 // Reads once, after what is held, for which there is room.
-fn read_more(buf: &mut [u8], s: State) -> Next
-    requires { ⌜ Called (now buf) s ⌝ }
+fn read_more(buf: &mut [u8], s: State, wrote: usize) -> Next
+    requires { ⌜ Good (now buf) s ⌝ }
     requires { ⌜ s .end < s .at + length (now buf) ⌝ }
-    ensures { λ r. ⌜ Led (now (buf .exit)) r ⌝ }
+    ensures { λ r. ⌜ More (now (buf .entry)) s wrote (now (buf .exit)) r ⌝ }
     ensures { λ r. ⌜ Moved s r ⌝ }
 {
     let t = shift(buf, s);
@@ -125,11 +141,21 @@ fn read_more(buf: &mut [u8], s: State) -> Next
     let got = read_some(&mut buf[end..]);
     if got < 0 {
         os::fail(b"standard input");
-        return Next { s: t, how: FAILED };
+        return Next {
+            s: t,
+            ahead: Ahead::Nothing,
+            wrote: wrote,
+            came: 0,
+        };
     }
     let n = io::count(got, &buf[end..]);
     if n == 0 {
-        return Next { s: t, how: END };
+        return Next {
+            s: t,
+            ahead: Ahead::LastLine,
+            wrote: wrote,
+            came: 0,
+        };
     }
     let u = State {
         at: t.at,
@@ -139,14 +165,19 @@ fn read_more(buf: &mut [u8], s: State) -> Next
         judged: t.judged,
         stop,
     };
-    Next { s: u, how: AGAIN }
+    Next {
+        s: u,
+        ahead: Ahead::Turn,
+        wrote: wrote,
+        came: n,
+    }
 }
 
-// Judges what is held, writes the lines, and reads on where the call did not pause.
+// A turn: judges what is held, writes the lines, and reads on where no whole record is left.
 fn step(buf: &mut [u8], out: &mut [u8], text: &mut [u8], s: State) -> Next
-    requires { ⌜ Reached (now buf) s ⌝ }
+    requires { ⌜ Good (now buf) s ⌝ }
     requires { ⌜ Roomy (now buf) (now out) (now text) ⌝ }
-    ensures { λ r. ⌜ Led (now (buf .exit)) r ⌝ }
+    ensures { λ r. ⌜ TurnAdds (now (buf .entry)) s (now (buf .exit)) (now (text .exit)) r ⌝ }
     ensures { λ r. ⌜ Moved s r ⌝ }
 {
     let t = judge_held(buf, out, text, s);
@@ -154,20 +185,35 @@ fn step(buf: &mut [u8], out: &mut [u8], text: &mut [u8], s: State) -> Next
     let n = t.text;
     if !io::write_all(1, &text[..n]) {
         os::fail(b"standard output");
-        return Next { s: u, how: FAILED };
+        return Next {
+            s: u,
+            ahead: Ahead::Nothing,
+            wrote: n,
+            came: 0,
+        };
     }
     let stop = u.stop;
-    let how = way(stop);
-    if how == READ {
-        return read_more(buf, u);
+    match way_after(stop) {
+        Way::Again => Next {
+            s: u,
+            ahead: Ahead::Turn,
+            wrote: n,
+            came: 0,
+        },
+        Way::Read => read_more(buf, u, n),
+        Way::End => Next {
+            s: u,
+            ahead: Ahead::LastLine,
+            wrote: n,
+            came: 0,
+        },
     }
-    Next { s: u, how: how }
 }
 
+// Turns, for as long as one follows.
 fn serve(buf: &mut [u8], out: &mut [u8], text: &mut [u8], start: u64) -> Next
     requires { ⌜ Roomy (now buf) (now out) (now text) ⌝ }
-    ensures { λ r. ⌜ Led (now (buf .exit)) r ⌝ }
-    ensures { λ r. ⌜ (0 < r .how) ⌝ }
+    ensures { λ r. ⌜ Served start (now (buf .exit)) r ⌝ }
 {
     let mut n = Next {
         s: State {
@@ -178,13 +224,30 @@ fn serve(buf: &mut [u8], out: &mut [u8], text: &mut [u8], start: u64) -> Next
             judged: 0,
             stop: Stop::Finished,
         },
-        how: AGAIN,
+        ahead: Ahead::Turn,
+        wrote: 0,
+        came: 0,
     };
-    while n.how == AGAIN {
-        let s = n.s;
-        n = step(buf, out, text, s);
+    loop {
+        let ahead = n.ahead;
+        match ahead {
+            Ahead::Turn => {
+                let s = n.s;
+                n = step(buf, out, text, s);
+            }
+            Ahead::LastLine => return n,
+            Ahead::Nothing => return n,
+        }
     }
-    n
+}
+
+// The last line at the start of the text, and its length.
+fn last_line(text: &mut [u8], s: State) -> usize
+    requires { ⌜ (lastMost ≤ length (now text)) × (s .start ≤ s .offset) ⌝ }
+    ensures { λ r. ⌜ Closing (now (text .exit)) s r ⌝ }
+{
+    let stop = s.stop;
+    report::last_line(text, stop.number() as u64, s.judged, s.offset - s.start)
 }
 
 fn run_from(start: u64) {
@@ -194,20 +257,14 @@ fn run_from(start: u64) {
         return;
     }
     let mut buf = io::large_buffer();
-    let mut out = [0u8; 24576];
-    let mut text = [0u8; 59392];
+    let mut out = [0u8; RECORDS * batch::VERDICT_SIZE];
+    let mut text = [0u8; RECORDS * report::LINE_MOST];
     let n = serve(&mut buf, &mut out, &mut text, start);
-    let s = n.s;
-    if n.how == END {
-        let mut last = [0u8; 80];
-        let stop = s.stop;
-        let k = report::last_line(
-            &mut last,
-            stop.number() as u64,
-            s.judged,
-            s.offset - s.start,
-        );
-        if !io::write_all(1, &last[..k]) {
+    let ahead = n.ahead;
+    if let Ahead::LastLine = ahead {
+        let s = n.s;
+        let k = last_line(&mut text, s);
+        if !io::write_all(1, &text[..k]) {
             os::fail(b"standard output");
         }
     }

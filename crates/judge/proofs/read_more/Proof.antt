@@ -1,7 +1,6 @@
 -- `read_more` meets its contract: what is held stands at the front, and the bytes that come in stand after it.
-use native.Mathlib.Omega.{arith}
+use Rattle.judge.proofs.Laws.{more-failed, more-ended, more-came, moved-more, not-moved, last-is-turn, nothing-is-turn}
 use borrow.Author.Needs.{needs}
-use Rattle.judge.proofs.Laws.{led-failed, led-ended, led-on, moved-more, not-moved}
 use Rattle.judge.proofs.read_more.Statement.{statement}
 use Rattle.judge.proofs.read_more.Tie as tie
 
@@ -31,9 +30,9 @@ same-length c = search needs
 
 returns : tie.Need-returns
 returns c =
-    let h = c .before .before .before .before .before .before .before .before .before .shift in
-    let r = c .before .before .before .before .before .read-some in
-    (led-failed _ (h .last .0) (r .last .0) _ _ (c .before .before .before .before .before .before .before .before .before .before .before .before .pre .0) (h .ensures) (r .kept .0), not-moved _ _ 3 (omega arith))
+    let r = c .before .before .before .before .before in
+    let h = r .before .before .before .before .shift in
+    (more-failed _ (h .last .0) (r .read-some .last .0) _ _ (h .ensures) (r .read-some .kept .0) _, not-moved _ _ nothing-is-turn)
 
 sub-count : tie.Need-sub-count
 sub-count c = search needs
@@ -52,21 +51,21 @@ same-length-2 c = search needs
 
 returns-2 : tie.Need-returns-2
 returns-2 c =
-    let h = c .before .before .before .before .before .before .before .before .before .before .before .shift in
-    let r = c .before .before .before .before .before .before .before .read-some in
-    (led-ended _ (h .last .0) (r .last .0) _ _ (c .before .before .before .before .before .before .before .before .before .before .before .before .before .before .pre .0) (h .ensures) (r .kept .0), not-moved _ _ 2 (omega arith))
+    let r = c .before .before .before .before .before .before .before in
+    let h = r .before .before .before .before .shift in
+    (more-ended _ (h .last .0) (r .read-some .last .0) _ _ (h .ensures) (r .read-some .kept .0) _, not-moved _ _ last-is-turn)
 
-add-t13 : tie.Need-add-t13
-add-t13 c = search needs
+add-t14 : tie.Need-add-t14
+add-t14 c = search needs
 
 same-length-3 : tie.Need-same-length-3
 same-length-3 c = search needs
 
 returns-3 : tie.Need-returns-3
 returns-3 c =
-    let h = c .before .before .before .before .before .before .before .before .before .before .before .shift in
-    let r = c .before .before .before .before .before .before .before .read-some in
-    (led-on _ (h .last .0) (r .last .0) _ _ (c .before .before .before .before .before .before .before .before .before .before .before .before .before .before .pre .0) (h .ensures) (r .kept .0) _ (search needs), moved-more _ _ _ _ _ (h .ensures) (search needs))
+    let r = c .before .before .before .before .before .before .before in
+    let h = r .before .before .before .before .shift in
+    (more-came _ (h .last .0) (r .read-some .last .0) _ _ (h .ensures) (r .read-some .kept .0) _ _ (search needs), moved-more _ _ _ _ _ _ (h .ensures) (search needs))
 
 pub read-more-spec : {M : Type 1} → statement M
 read-more-spec =
@@ -87,6 +86,6 @@ read-more-spec =
     count-requires
     same-length-2
     returns-2
-    add-t13
+    add-t14
     same-length-3
     returns-3)

@@ -1,8 +1,9 @@
--- `run_from` is safe: the last line lies inside its buffer, and what was read is the offset less the first one.
+-- `run_from` is safe: no record is counted before the first byte, and the last line lies inside the text.
 use mathlib.Core.Path.{sym}
+use native.Mathlib.Omega.{arith}
 use lib.Seq.{length-take-le}
-use Rattle.report.proofs.Texts.{last-inside}
 use borrow.Author.Needs.{needs}
+use Rattle.judge.proofs.Laws.{turns-led}
 use Rattle.judge.proofs.run_from.Statement.{statement}
 use Rattle.judge.proofs.run_from.Tie as tie
 
@@ -39,27 +40,22 @@ slice-aggregate-serve-3 c = search needs
 serve-requires : tie.Need-serve-requires
 serve-requires c κs = search needs
 
+enum-told : tie.Need-enum-told
+enum-told c = search needs
+
 slice-aggregate-last-line : tie.Need-slice-aggregate-last-line
 slice-aggregate-last-line c = search needs
 
-number-requires : tie.Need-number-requires
-number-requires c κs = search needs
-
-cast-last-line : tie.Need-cast-last-line
-cast-last-line c = search needs
-
-sub-last-line : tie.Need-sub-last-line
-sub-last-line c = search needs
-
 last-line-requires : tie.Need-last-line-requires
-last-line-requires c κs = search needs
+last-line-requires c κs =
+    let v = c .before .before .before .before .before .before .before .serve .ensures in
+    (search needs, omega (arith, turns-led (v .turns) .reached .good .counts))
 
-array-share-prefix-last : tie.Need-array-share-prefix-last
-array-share-prefix-last c = last-inside _ _ _ _ _ _ (c .before .last-line .ensures) (c .before .last-line .kept .0)
+array-share-prefix-text : tie.Need-array-share-prefix-text
+array-share-prefix-text c = search needs
 
 slice-aggregate-write-all-2 : tie.Need-slice-aggregate-write-all-2
-slice-aggregate-write-all-2 c =
-    sym (length-take-le _ _ (last-inside _ _ _ _ _ _ (c .before .before .last-line .ensures) (c .before .before .last-line .kept .0)))
+slice-aggregate-write-all-2 c = sym (length-take-le _ _ (c .before .before .last-line .ensures .inside))
 
 write-all-requires-2 : tie.Need-write-all-requires-2
 write-all-requires-2 c κs = search needs
@@ -94,12 +90,10 @@ run-from-spec =
     slice-aggregate-serve-2
     slice-aggregate-serve-3
     serve-requires
+    enum-told
     slice-aggregate-last-line
-    number-requires
-    cast-last-line
-    sub-last-line
     last-line-requires
-    array-share-prefix-last
+    array-share-prefix-text
     slice-aggregate-write-all-2
     write-all-requires-2
     slice-aggregate-fail-2

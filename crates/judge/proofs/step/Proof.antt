@@ -1,9 +1,11 @@
--- `step` meets its contract: the call is one event more, and where it neither pauses nor ends there is room to read on.
+-- `step` meets its contract: the call is one event more, its lines are what is written, and where it neither pauses nor ends there is room to read on.
 use mathlib.Core.Path.{sym, _∙_}
 use native.Mathlib.Omega.{arith}
 use lib.ListN.{length-take}
+use Rattle.judge.specs.declared.Ahead.the-variants.{Turn, LastLine, Nothing}
+use Rattle.judge.proofs.Laws.{turned-call, turned-more, moved-call, moved-after, not-moved, reads-on, ends, has-room}
+use Rattle.judge.proofs.Laws.{turn-is-last, nothing-is-last, last-is-turn, nothing-is-turn}
 use borrow.Author.Needs.{needs}
-use Rattle.judge.proofs.Laws.{judged-reached, judged-called, no-pause, has-room, not-moved, moved-after, moved-call}
 use Rattle.judge.proofs.step.Statement.{statement}
 use Rattle.judge.proofs.step.Tie as tie
 
@@ -37,19 +39,26 @@ same-length-3 c = search needs
 returns : tie.Need-returns
 returns c =
     let j = c .before .before .before .before .before .before .before .before .before .before .judge-held .ensures in
-    (record { reached = judged-reached _ _ _ _ _ _ j (c .before .before .before .before .before .before .before .before .before .before .before .before .before .before .before .before .before .pre .0); ended = λ e. absurd (omega arith) }, not-moved _ _ 3 (omega arith))
+    (turned-call _ _ _ _ _ _ j Nothing (λ e. absurd (nothing-is-last e)), not-moved _ _ nothing-is-turn)
 
-way-requires : tie.Need-way-requires
-way-requires c κs = search needs
+way-after-requires : tie.Need-way-after-requires
+way-after-requires c κs = search needs
+
+enum-told : tie.Need-enum-told
+enum-told c = search needs
+
+enum-told-2 : tie.Need-enum-told-2
+enum-told-2 c = search needs
 
 read-more-requires : tie.Need-read-more-requires
 read-more-requires c κs =
-    let p = c .before .before .before .before .before .before .before .before .before .before .before .before .before .before .before .before .before .before .pre in
-    let x = c .before .before .before .before .before .before .before .before .before .before .before .judge-held .result .s in
-    let j = c .before .before .before .before .before .before .before .before .before .before .before .judge-held .ensures in
-    let w = c .before .before .way .ensures in
-    let e = c .before .if2 .taken in
-    (judged-called _ _ _ _ _ _ j (p .0) (no-pause (x .stop) (omega (arith, w, e))), has-room (x .stop) _ _ _ (j .none) (j .short) (p .1 .record-fits) (sym w ∙ e))
+    let d = c .before .before .before in
+    let k = d .before .before .before .before .before .before .before .before .before in
+    let j = k .judge-held .ensures in
+    (j .good, has-room (k .judge-held .result .s .stop) _ _ _ (j .none) (j .short) (k .before .before .before .before .before .before .before .pre .1 .record-fits) (sym (d .way-after .ensures) ∙ c .before .enum-told2 .given .1))
+
+enum-told-3 : tie.Need-enum-told-3
+enum-told-3 c = search needs
 
 same-length-4 : tie.Need-same-length-4
 same-length-4 c = search needs
@@ -62,8 +71,10 @@ same-length-6 c = search needs
 
 returns-2 : tie.Need-returns-2
 returns-2 c =
-    let m = c .before .before .read-more in
-    (m .ensures .0, moved-after _ _ _ _ _ _ _ (c .before .before .before .before .before .before .before .before .before .before .before .before .before .before .judge-held .ensures) (m .ensures .1))
+    let d = c .before .before in
+    let k = d .before .before .before .before .before .before .before .before .before in
+    let j = k .judge-held .ensures in
+    (turned-call _ _ _ _ _ _ j Turn (λ e. absurd (turn-is-last e)), moved-call _ _ _ _ _ _ _ (k .before .before .before .before .before .before .before .pre .1) j (sym (d .way-after .ensures) ∙ c .enum-told .given .1))
 
 same-length-7 : tie.Need-same-length-7
 same-length-7 c = search needs
@@ -76,11 +87,27 @@ same-length-9 c = search needs
 
 returns-3 : tie.Need-returns-3
 returns-3 c =
-    let p = c .before .before .before .before .before .before .before .before .before .before .before .before .before .before .before .before .before .pre in
-    let x = c .before .before .before .before .before .before .before .before .before .before .judge-held .result .s in
-    let j = c .before .before .before .before .before .before .before .before .before .before .judge-held .ensures in
-    let w = c .before .way .ensures in
-    (record { reached = judged-reached _ _ _ _ _ _ j (p .0); ended = λ e. judged-called _ _ _ _ _ _ j (p .0) (no-pause (x .stop) (omega (arith, w, e))) }, moved-call _ _ _ _ _ _ _ _ (p .1) j w)
+    let d = c .before .before .before .before .before .before in
+    let k = d .before .before .before .before .before .before .before .before .before in
+    let j = k .judge-held .ensures in
+    let m = c .before .before .read-more in
+    (turned-more _ _ _ _ _ _ j _ _ (reads-on (k .judge-held .result .s .stop) (sym (d .way-after .ensures) ∙ c .before .before .before .before .enum-told2 .given .1)) (m .ensures .0), moved-after _ _ _ _ _ _ j _ (m .ensures .1))
+
+same-length-10 : tie.Need-same-length-10
+same-length-10 c = search needs
+
+same-length-11 : tie.Need-same-length-11
+same-length-11 c = search needs
+
+same-length-12 : tie.Need-same-length-12
+same-length-12 c = search needs
+
+returns-4 : tie.Need-returns-4
+returns-4 c =
+    let d = c .before .before in
+    let k = d .before .before .before .before .before .before .before .before .before in
+    let j = k .judge-held .ensures in
+    (turned-call _ _ _ _ _ _ j LastLine (λ e. ends (k .judge-held .result .s .stop) (sym (d .way-after .ensures) ∙ c .enum-told3 .given .1)), not-moved _ _ last-is-turn)
 
 pub step-spec : {M : Type 1} → statement M
 step-spec =
@@ -96,8 +123,11 @@ step-spec =
     same-length-2
     same-length-3
     returns
-    way-requires
+    way-after-requires
+    enum-told
+    enum-told-2
     read-more-requires
+    enum-told-3
     same-length-4
     same-length-5
     same-length-6
@@ -105,4 +135,8 @@ step-spec =
     same-length-7
     same-length-8
     same-length-9
-    returns-3)
+    returns-3
+    same-length-10
+    same-length-11
+    same-length-12
+    returns-4)
