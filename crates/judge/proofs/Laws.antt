@@ -349,27 +349,34 @@ module _ (buf : List ℕ) (c : Call) (text : List ℕ) (s r : State) (n : ℕ) (
           good = j .good;
         }
 
-  -- a turn that reads nothing
-  pub turned-call : (a : Ahead) → (a ≡ LastLine → pauses (r .stop) ≡ false)
-      → TurnAdds buf s buf text (record { s = r; ahead = a; wrote = n; came = 0 })
-  turned-call a p =
-      record {
-        led =
-            λ came wrote k.
-            rw append-nil (record { reached = judged-reached came wrote k; ended = λ e. judged-called came wrote k (p e) });
-        start = j .start;
-      }
+  -- a turn that hands its lines to a write
+  module _ (w : ℕ) (e : w ≡ n) where
+    as-told : (came wrote buf₁ : List ℕ) (m : Next) → Led came (wrote ++ take n text) buf₁ m → Led came (wrote ++ take w text) buf₁ m
+    as-told came wrote buf₁ m l = subst (λ (x : ℕ). Led came (wrote ++ take x text) buf₁ m) (sym e) l
 
-  -- and one that reads on
-  pub turned-more : (buf₁ : List ℕ) (m : Next) → pauses (r .stop) ≡ false → More buf r n buf₁ m → TurnAdds buf s buf₁ text m
-  turned-more buf₁ m p g =
-      record {
-        led =
-            λ came wrote k.
-            subst (λ (x : ℕ). Led (came ++ cameIn buf₁ m) (wrote ++ take x text) buf₁ m) (sym (g .wrote))
-            (g .led came (wrote ++ take n text) (judged-called came wrote k p));
-        start = g .start ∙ j .start;
-      }
+    -- and reads nothing
+    pub turned-call : (a : Ahead) → (a ≡ LastLine → pauses (r .stop) ≡ false)
+        → TurnAdds buf s buf text (record { s = r; ahead = a; wrote = w; came = 0 })
+    turned-call a p =
+        record {
+          led =
+              λ came wrote k.
+              rw append-nil
+              (as-told came wrote buf (record { s = r; ahead = a; wrote = w; came = 0 })
+              (record { reached = judged-reached came wrote k; ended = λ e. judged-called came wrote k (p e) }));
+          start = j .start;
+        }
+
+    -- or reads on
+    pub turned-more : (buf₁ : List ℕ) (m : Next) → pauses (r .stop) ≡ false → More buf r w buf₁ m → TurnAdds buf s buf₁ text m
+    turned-more buf₁ m p g =
+        record {
+          led =
+              λ came wrote k.
+              subst (λ (x : ℕ). Led (came ++ cameIn buf₁ m) (wrote ++ take x text) buf₁ m) (sym (g .wrote))
+              (as-told (came ++ cameIn buf₁ m) wrote buf₁ m (g .led came (wrote ++ take n text) (judged-called came wrote k p)));
+          start = g .start ∙ j .start;
+        }
 
   pub moved-after : (m : Next) → Moved r m → Moved s m
   moved-after m g = record { moved = λ e. omega (arith, g .moved e, j .later, j .total) }
@@ -408,13 +415,13 @@ has-room Cut at end size f g h e = omega (arith, g refl)
 has-room Offset at end size f g h e = absurd (end-is-read e)
 has-room Long at end size f g h e = absurd (end-is-read e)
 
-pub moved-call : (buf out text₀ text : List ℕ) (s r : State) (k : ℕ) → Roomy buf out text₀ → Judging buf (callWith out text₀) text s r k
-    → wayAfter (r .stop) ≡ Again → Moved s (record { s = r; ahead = Turn; wrote = k; came = 0 })
-moved-call buf out text₀ text s r k g j w =
+pub moved-call : (buf out text₀ text : List ℕ) (s r : State) (k w : ℕ) → Roomy buf out text₀ → Judging buf (callWith out text₀) text s r k
+    → wayAfter (r .stop) ≡ Again → Moved s (record { s = r; ahead = Turn; wrote = w; came = 0 })
+moved-call buf out text₀ text s r k w g j h =
     let n = roomOf (length out) (length text₀) in
     let l = length-take-le n out (room-in (length out) (length text₀) n refl) in
     let v = room-least (length out) (length text₀) (g .verdict-fits) (g .line-fits) in
-    record { moved = λ e. omega (arith, j .grew (rw l v) (does-pause (r .stop) w), j .total) }
+    record { moved = λ e. omega (arith, j .grew (rw l v) (does-pause (r .stop) h), j .total) }
 
 -- turns lead from the start to where they are
 led-start : (start : ℕ) (buf : List ℕ) → Led [] [] buf (first start)

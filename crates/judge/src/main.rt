@@ -3,8 +3,8 @@
 // Turns follow each other until the input ends, or fails, or cannot be gone on with. A turn judges the whole records of what its buffer
 // holds, hands their lines to one write and, where no whole record is left, reads once. No contract can say which bytes a read gives or
 // a write takes, so each function says what it handed over: the lines stand at the start of `text`, the bytes that came at the end of
-// what `buf` holds. `step` says that each turn adds both to what went before, and proofs/Promises.antt that in the end all the lines
-// are what SCOPE asks for all the bytes.
+// what `buf` holds, and how many there are of each comes from `write_out` and `read_some`. `step` says that each turn adds both to what
+// went before, and proofs/Promises.antt that in the end all the lines are what SCOPE asks for all the bytes.
 ghost use mathlib.Core.Path.{_≡_};
 ghost use Prim.Native.Nat.{_+_, _≤_, _<_};
 ghost use lib.ListN.{length, take, drop};
@@ -55,6 +55,12 @@ struct Next {
     ahead: Ahead,
     wrote: usize,
     came: usize,
+}
+
+// How many bytes were handed to a write, and whether it took them all.
+struct Written {
+    size: usize,
+    whole: bool,
 }
 
 fn way_after(stop: Stop) -> Way
@@ -121,6 +127,18 @@ fn shift(buf: &mut [u8], s: State) -> State
     }
 }
 
+// Hands a part to standard output, and says how much that was. All that the program writes goes through here.
+fn write_out(part: &[u8]) -> Written
+    ensures { λ r. ⌜ r .size ≡ length (now (part .entry)) ⌝ }
+{
+    let size = part.len();
+    let whole = io::write_all(1, part);
+    if !whole {
+        os::fail(b"standard output");
+    }
+    Written { size, whole }
+}
+
 // Reads into a part that is not empty, so that 0 says that the input has ended.
 fn read_some(part: &mut [u8]) -> isize
     requires { ⌜ 0 < length (now part) ⌝ }
@@ -183,12 +201,13 @@ fn step(buf: &mut [u8], out: &mut [u8], text: &mut [u8], s: State) -> Next
     let t = judge_held(buf, out, text, s);
     let u = t.s;
     let n = t.text;
-    if !io::write_all(1, &text[..n]) {
-        os::fail(b"standard output");
+    let w = write_out(&text[..n]);
+    let wrote = w.size;
+    if !w.whole {
         return Next {
             s: u,
             ahead: Ahead::Nothing,
-            wrote: n,
+            wrote: wrote,
             came: 0,
         };
     }
@@ -197,14 +216,14 @@ fn step(buf: &mut [u8], out: &mut [u8], text: &mut [u8], s: State) -> Next
         Way::Again => Next {
             s: u,
             ahead: Ahead::Turn,
-            wrote: n,
+            wrote: wrote,
             came: 0,
         },
-        Way::Read => read_more(buf, u, n),
+        Way::Read => read_more(buf, u, wrote),
         Way::End => Next {
             s: u,
             ahead: Ahead::LastLine,
-            wrote: n,
+            wrote: wrote,
             came: 0,
         },
     }
@@ -252,8 +271,8 @@ fn last_line(text: &mut [u8], s: State) -> usize
 
 fn run_from(start: u64) {
     let head = report::heading();
-    if !io::write_all(1, &head) {
-        os::fail(b"standard output");
+    let h = write_out(&head);
+    if !h.whole {
         return;
     }
     let mut buf = io::large_buffer();
@@ -264,9 +283,7 @@ fn run_from(start: u64) {
     if let Ahead::LastLine = ahead {
         let s = n.s;
         let k = last_line(&mut text, s);
-        if !io::write_all(1, &text[..k]) {
-            os::fail(b"standard output");
-        }
+        write_out(&text[..k]);
     }
 }
 

@@ -2,25 +2,19 @@
 use mathlib.Core.Path.{sym}
 use native.Mathlib.Omega.{arith}
 use lib.Seq.{length-take-le}
-use borrow.Author.Needs.{needs}
 use Rattle.judge.proofs.Laws.{turns-led}
+use borrow.Author.Needs.{needs}
 use Rattle.judge.proofs.run_from.Statement.{statement}
 use Rattle.judge.proofs.run_from.Tie as tie
 
 heading-requires : tie.Need-heading-requires
 heading-requires c κs = search needs
 
-slice-aggregate-write-all : tie.Need-slice-aggregate-write-all
-slice-aggregate-write-all c = search needs
+slice-aggregate-write-out : tie.Need-slice-aggregate-write-out
+slice-aggregate-write-out c = search needs
 
-write-all-requires : tie.Need-write-all-requires
-write-all-requires c κs = search needs
-
-slice-aggregate-fail : tie.Need-slice-aggregate-fail
-slice-aggregate-fail c = search needs
-
-fail-requires : tie.Need-fail-requires
-fail-requires c κs = search needs
+write-out-requires : tie.Need-write-out-requires
+write-out-requires c κs = search needs
 
 returns : tie.Need-returns
 returns c = search needs
@@ -54,17 +48,11 @@ last-line-requires c κs =
 array-share-prefix-text : tie.Need-array-share-prefix-text
 array-share-prefix-text c = search needs
 
-slice-aggregate-write-all-2 : tie.Need-slice-aggregate-write-all-2
-slice-aggregate-write-all-2 c = sym (length-take-le _ _ (c .before .before .last-line .ensures .inside))
+slice-aggregate-write-out-2 : tie.Need-slice-aggregate-write-out-2
+slice-aggregate-write-out-2 c = sym (length-take-le _ _ (c .before .before .last-line .ensures .inside))
 
-write-all-requires-2 : tie.Need-write-all-requires-2
-write-all-requires-2 c κs = search needs
-
-slice-aggregate-fail-2 : tie.Need-slice-aggregate-fail-2
-slice-aggregate-fail-2 c = search needs
-
-fail-requires-2 : tie.Need-fail-requires-2
-fail-requires-2 c κs = search needs
+write-out-requires-2 : tie.Need-write-out-requires-2
+write-out-requires-2 c κs = search needs
 
 returns-2 : tie.Need-returns-2
 returns-2 c = search needs
@@ -72,18 +60,13 @@ returns-2 c = search needs
 returns-3 : tie.Need-returns-3
 returns-3 c = search needs
 
-returns-4 : tie.Need-returns-4
-returns-4 c = search needs
-
 pub run-from-spec : {M : Type 1} → statement M
 run-from-spec =
     tie.close
     (tie.spec
     heading-requires
-    slice-aggregate-write-all
-    write-all-requires
-    slice-aggregate-fail
-    fail-requires
+    slice-aggregate-write-out
+    write-out-requires
     returns
     large-buffer-requires
     slice-aggregate-serve
@@ -94,10 +77,7 @@ run-from-spec =
     slice-aggregate-last-line
     last-line-requires
     array-share-prefix-text
-    slice-aggregate-write-all-2
-    write-all-requires-2
-    slice-aggregate-fail-2
-    fail-requires-2
+    slice-aggregate-write-out-2
+    write-out-requires-2
     returns-2
-    returns-3
-    returns-4)
+    returns-3)

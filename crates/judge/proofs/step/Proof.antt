@@ -2,6 +2,7 @@
 use mathlib.Core.Path.{sym, _∙_}
 use native.Mathlib.Omega.{arith}
 use lib.ListN.{length-take}
+use lib.Seq.{length-take-le}
 use Rattle.judge.specs.declared.Ahead.the-variants.{Turn, LastLine, Nothing}
 use Rattle.judge.proofs.Laws.{turned-call, turned-more, moved-call, moved-after, not-moved, reads-on, ends, has-room}
 use Rattle.judge.proofs.Laws.{turn-is-last, nothing-is-last, last-is-turn, nothing-is-turn}
@@ -12,20 +13,14 @@ use Rattle.judge.proofs.step.Tie as tie
 judge-held-requires : tie.Need-judge-held-requires
 judge-held-requires c κs = search needs
 
-slice-reshare-prefix-write-all : tie.Need-slice-reshare-prefix-write-all
-slice-reshare-prefix-write-all c = search needs
+slice-reshare-prefix-write-out : tie.Need-slice-reshare-prefix-write-out
+slice-reshare-prefix-write-out c = search needs
 
-slice-aggregate-write-all : tie.Need-slice-aggregate-write-all
-slice-aggregate-write-all c = simp length-take (omega arith)
+slice-aggregate-write-out : tie.Need-slice-aggregate-write-out
+slice-aggregate-write-out c = simp length-take (omega arith)
 
-write-all-requires : tie.Need-write-all-requires
-write-all-requires c κs = search needs
-
-slice-aggregate-fail : tie.Need-slice-aggregate-fail
-slice-aggregate-fail c = search needs
-
-fail-requires : tie.Need-fail-requires
-fail-requires c κs = search needs
+write-out-requires : tie.Need-write-out-requires
+write-out-requires c κs = search needs
 
 same-length : tie.Need-same-length
 same-length c = search needs
@@ -38,8 +33,11 @@ same-length-3 c = search needs
 
 returns : tie.Need-returns
 returns c =
-    let j = c .before .before .before .before .before .before .before .before .before .before .judge-held .ensures in
-    (turned-call _ _ _ _ _ _ j Nothing (λ e. absurd (nothing-is-last e)), not-moved _ _ nothing-is-turn)
+    let o = c .before .before in
+    let k = o .before .before .before .before .before .before .before in
+    let j = k .judge-held .ensures in
+    let e = o .write-out .ensures ∙ length-take-le _ _ (j .inside) in
+    (turned-call _ _ _ _ _ _ j _ e Nothing (λ f. absurd (nothing-is-last f)), not-moved _ _ nothing-is-turn)
 
 way-after-requires : tie.Need-way-after-requires
 way-after-requires c κs = search needs
@@ -52,10 +50,11 @@ enum-told-2 c = search needs
 
 read-more-requires : tie.Need-read-more-requires
 read-more-requires c κs =
-    let d = c .before .before .before in
-    let k = d .before .before .before .before .before .before .before .before .before in
+    let o = c .before .before .before .before .before .before in
+    let k = o .before .before .before .before .before .before .before in
     let j = k .judge-held .ensures in
-    (j .good, has-room (k .judge-held .result .s .stop) _ _ _ (j .none) (j .short) (k .before .before .before .before .before .before .before .pre .1 .record-fits) (sym (d .way-after .ensures) ∙ c .before .enum-told2 .given .1))
+    let way = sym (c .before .before .before .way-after .ensures) ∙ c .before .enum-told2 .given .1 in
+    (j .good, has-room (k .judge-held .result .s .stop) _ _ _ (j .none) (j .short) (k .before .before .before .before .before .before .before .pre .1 .record-fits) way)
 
 enum-told-3 : tie.Need-enum-told-3
 enum-told-3 c = search needs
@@ -71,10 +70,12 @@ same-length-6 c = search needs
 
 returns-2 : tie.Need-returns-2
 returns-2 c =
-    let d = c .before .before in
-    let k = d .before .before .before .before .before .before .before .before .before in
+    let o = c .before .before .before .before .before in
+    let k = o .before .before .before .before .before .before .before in
     let j = k .judge-held .ensures in
-    (turned-call _ _ _ _ _ _ j Turn (λ e. absurd (turn-is-last e)), moved-call _ _ _ _ _ _ _ (k .before .before .before .before .before .before .before .pre .1) j (sym (d .way-after .ensures) ∙ c .enum-told .given .1))
+    let e = o .write-out .ensures ∙ length-take-le _ _ (j .inside) in
+    let way = sym (c .before .before .way-after .ensures) ∙ c .enum-told .given .1 in
+    (turned-call _ _ _ _ _ _ j _ e Turn (λ f. absurd (turn-is-last f)), moved-call _ _ _ _ _ _ _ _ (k .before .before .before .before .before .before .before .pre .1) j way)
 
 same-length-7 : tie.Need-same-length-7
 same-length-7 c = search needs
@@ -87,11 +88,13 @@ same-length-9 c = search needs
 
 returns-3 : tie.Need-returns-3
 returns-3 c =
-    let d = c .before .before .before .before .before .before in
-    let k = d .before .before .before .before .before .before .before .before .before in
+    let o = c .before .before .before .before .before .before .before .before .before in
+    let k = o .before .before .before .before .before .before .before in
     let j = k .judge-held .ensures in
-    let m = c .before .before .read-more in
-    (turned-more _ _ _ _ _ _ j _ _ (reads-on (k .judge-held .result .s .stop) (sym (d .way-after .ensures) ∙ c .before .before .before .before .enum-told2 .given .1)) (m .ensures .0), moved-after _ _ _ _ _ _ j _ (m .ensures .1))
+    let e = o .write-out .ensures ∙ length-take-le _ _ (j .inside) in
+    let way = sym (c .before .before .before .before .before .before .way-after .ensures) ∙ c .before .before .before .before .enum-told2 .given .1 in
+    let m = c .before .before .read-more .ensures in
+    (turned-more _ _ _ _ _ _ j _ e _ _ (reads-on (k .judge-held .result .s .stop) way) (m .0), moved-after _ _ _ _ _ _ j _ (m .1))
 
 same-length-10 : tie.Need-same-length-10
 same-length-10 c = search needs
@@ -104,21 +107,21 @@ same-length-12 c = search needs
 
 returns-4 : tie.Need-returns-4
 returns-4 c =
-    let d = c .before .before in
-    let k = d .before .before .before .before .before .before .before .before .before in
+    let o = c .before .before .before .before .before in
+    let k = o .before .before .before .before .before .before .before in
     let j = k .judge-held .ensures in
-    (turned-call _ _ _ _ _ _ j LastLine (λ e. ends (k .judge-held .result .s .stop) (sym (d .way-after .ensures) ∙ c .enum-told3 .given .1)), not-moved _ _ last-is-turn)
+    let e = o .write-out .ensures ∙ length-take-le _ _ (j .inside) in
+    let way = sym (c .before .before .way-after .ensures) ∙ c .enum-told3 .given .1 in
+    (turned-call _ _ _ _ _ _ j _ e LastLine (λ f. ends (k .judge-held .result .s .stop) way), not-moved _ _ last-is-turn)
 
 pub step-spec : {M : Type 1} → statement M
 step-spec =
     tie.close
     (tie.spec
     judge-held-requires
-    slice-reshare-prefix-write-all
-    slice-aggregate-write-all
-    write-all-requires
-    slice-aggregate-fail
-    fail-requires
+    slice-reshare-prefix-write-out
+    slice-aggregate-write-out
+    write-out-requires
     same-length
     same-length-2
     same-length-3
