@@ -1,4 +1,5 @@
 -- The laws and theorems of `field`.
-pub mod Accepted
+pub mod Admission
+pub mod Ways
 pub mod Places
 pub mod Worked

@@ -1,7 +1,7 @@
 // The check of one field: the choice on the kind, with the steps that every field passes before its rule.
 ghost use mathlib.Core.Path.{_≡_};
-ghost use mathlib.Core.Logic.{_≢_};
-ghost use Rattle.field.specs.Field.{unknownStep, admission, ruleOf, checkField};
+ghost use Rattle.field.specs.Field.{unknownStep, limitStep, ruleOf, checkField};
+ghost use Rattle.field.specs.Inner.{utf8Step, beforeRule, afterRule, Suits};
 use answer::Answer;
 use answer::Reason;
 use answer::Step;
@@ -9,44 +9,34 @@ use answer::Step;
 // The longest field that a rule is asked about.
 pub const FIELD_LIMIT: usize = 1024;
 
-// SCOPE's order for a field: 12, 11, 1. A field above the limit is not read.
-fn admit(kind: u16, value: &[u8]) -> Step
-    ensures { λ r. ⌜ r ≡ admission kind (now (value .entry)) ⌝ }
-{
-    if kind < 1 {
-        return unknown(kind);
-    }
-    if 10 < kind {
-        return unknown(kind);
-    }
-    let count = value.len();
-    if FIELD_LIMIT < count {
-        return Step::Stop(
-            Reason::TooLong {
-                count: count as u64,
-            },
-            2,
-        );
-    }
-    let place = utf8::valid_prefix(value);
-    if place == count {
-        return Step::Pass;
-    }
-    Step::Stop(Reason::NotUtf8 { place }, 3)
+// The order in which the steps of a kind's check are asked. SCOPE's order for a field is 12, 11, 1, then the rule's steps; any order that gives
+// the same answers will do, and the quickest is taken.
+enum Way {
+    // The kind's rule accepts ASCII only, which is UTF-8: the rule is asked first, and only a field that it refuses is looked at for UTF-8.
+    RuleFirst,
+    // The kind's rule accepts characters beyond ASCII, as the IBAN's passes over blanks beyond it: the field is looked at for UTF-8 first.
+    AdmittedFirst,
+    // The kind's value is bytes, and is not looked at for UTF-8.
+    Exempt,
+    // No kind has this number.
+    Unknown,
 }
 
-fn unknown(kind: u16) -> Step
-    ensures { λ r. ⌜ r ≡ unknownStep kind ⌝ }
+fn way_of(kind: u16) -> Way
+    ensures { λ r. ⌜ Suits r kind ⌝ }
 {
-    Step::Stop(Reason::UnknownKind { kind: kind as u64 }, 1)
+    match kind {
+        1 => Way::AdmittedFirst,
+        2..=10 => Way::RuleFirst,
+        _ => Way::Unknown,
+    }
 }
 
-// The rule of a kind other than the IBAN's.
 fn rule(kind: u16, value: &[u8]) -> Answer
-    requires { ⌜ kind ≢ 1 ⌝ }
     ensures { λ r. ⌜ r ≡ ruleOf kind (now (value .entry)) ⌝ }
 {
     match kind {
+        1 => iban::validate_iban(value),
         2 => lei::validate_lei(value),
         3 => bic::validate_bic(value),
         4 => datetime::validate_iso_date(value),
@@ -56,39 +46,89 @@ fn rule(kind: u16, value: &[u8]) -> Answer
         8 => currency::validate_currency(value),
         9 => common::parse_amount_cents(value),
         10 => common::parse_amount_cents_lenient(value),
-        _ => unknown(kind).or_accept(0),
+        _ => Answer::Refused(Reason::UnknownKind { kind: kind as u64 }, 1),
     }
 }
 
-// The IBAN's rule passes over blanks beyond ASCII, so that its field is admitted first.
-fn iban_field(value: &[u8]) -> Answer
-    ensures { λ r. ⌜ r ≡ checkField 1 (now (value .entry)) ⌝ }
+fn within_limit(value: &[u8]) -> Step
+    ensures { λ r. ⌜ r ≡ limitStep (now (value .entry)) ⌝ }
 {
-    match admit(1, value) {
-        Step::Pass => iban::validate_iban(value),
-        Step::Stop(reason, check) => Answer::Refused(reason, check),
+    let count = value.len();
+    if count <= FIELD_LIMIT {
+        Step::Pass
+    } else {
+        Step::Stop(
+            Reason::TooLong {
+                count: count as u64,
+            },
+            2,
+        )
     }
 }
 
-// The other rules accept ASCII only, so that a field is looked at for UTF-8 only where its rule refuses it. What is lent on there has a name
-// of its own, so that the field stays in registers where its rule accepts it.
+fn utf8_step(value: &[u8]) -> Step
+    ensures { λ r. ⌜ r ≡ utf8Step (now (value .entry)) ⌝ }
+{
+    let place = utf8::valid_prefix(value);
+    if place == value.len() {
+        Step::Pass
+    } else {
+        Step::Stop(Reason::NotUtf8 { place }, 3)
+    }
+}
+
+// A field above the limit is not read.
+fn admit(value: &[u8]) -> Step
+    ensures { λ r. ⌜ r ≡ beforeRule Way.AdmittedFirst (now (value .entry)) ⌝ }
+{
+    match within_limit(value) {
+        Step::Pass => utf8_step(value),
+        Step::Stop(reason, check) => Step::Stop(reason, check),
+    }
+}
+
+// An unknown kind has no step here: `rule` refuses it.
+fn before_rule(way: Way, value: &[u8]) -> Step
+    ensures { λ r. ⌜ r ≡ beforeRule way (now (value .entry)) ⌝ }
+{
+    match way {
+        Way::RuleFirst => within_limit(value),
+        Way::AdmittedFirst => {
+            let lent = value;
+            admit(lent)
+        }
+        Way::Exempt => within_limit(value),
+        Way::Unknown => Step::Pass,
+    }
+}
+
+fn after_rule(way: Way, value: &[u8]) -> Step
+    ensures { λ r. ⌜ r ≡ afterRule way (now (value .entry)) ⌝ }
+{
+    match way {
+        Way::RuleFirst => utf8_step(value),
+        Way::AdmittedFirst => Step::Pass,
+        Way::Exempt => Step::Pass,
+        Way::Unknown => Step::Pass,
+    }
+}
+
+// `lent` is another name for the field, and is there for speed: where `value` itself is handed to a function that is not compiled into this one,
+// the compiler copies it to memory at the start of every call; so it does so only for a field that its rule refuses.
 pub fn check_field(kind: u16, value: &[u8]) -> Answer
     ensures { λ r. ⌜ r ≡ checkField kind (now (value .entry)) ⌝ }
 {
-    if kind == 1 {
-        return iban_field(value);
-    }
-    if FIELD_LIMIT < value.len() {
-        let lent = value;
-        return admit(kind, lent).or_accept(0);
-    }
-    match rule(kind, value) {
-        Answer::Accepted(n) => Answer::Accepted(n),
-        Answer::Refused(reason, check) => {
-            let lent = value;
-            admit(kind, lent)
-                .then(Step::Stop(reason, check))
-                .or_accept(0)
-        }
+    let way = way_of(kind);
+    match before_rule(way, value) {
+        Step::Pass => match rule(kind, value) {
+            Answer::Accepted(n) => Answer::Accepted(n),
+            Answer::Refused(reason, check) => {
+                let lent = value;
+                after_rule(way, lent)
+                    .then(Step::Stop(reason, check))
+                    .or_accept(0)
+            }
+        },
+        Step::Stop(reason, check) => Answer::Refused(reason, check),
     }
 }

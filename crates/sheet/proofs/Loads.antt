@@ -30,7 +30,8 @@ use Rattle.iban.specs.declared.Electronic.{Electronic}
 use Rattle.iban.proofs.Padded.{padded-front}
 use Rattle.iban.proofs.Formats.{format-step}
 use Rattle.lei.specs.Lei.{leiCharacters, leiAnswer}
-use Rattle.field.specs.Field.{admission, ruleOf, answered, checkField}
+use Rattle.field.specs.Field.{known, admission, ruleOf, answered, checkField}
+use Rattle.field.proofs.Admission.{admitted, admission-cases}
 use Rattle.sheet.specs.Sheets.{sheetKind, heldText, characters, remainderBy, sheetOf}
 use Rattle.sheet.specs.Load.{refusal, summed, loadOf}
 use Rattle.sheet.specs.Inner.{sheetWith}
@@ -96,8 +97,8 @@ quiet-characters kind s = go (eqb kind 1)
     go false = search quiets depth 9
 
 quiet-admission : (kind : ℕ) (s : List ℕ) → Quiet (admission kind s)
-unfolding admission summed
-quiet-admission kind s = search quiets depth 9
+unfolding summed
+quiet-admission kind s = admission-cases Quiet kind s quiet-pass (quiet-at _ _ refl) (quiet-at _ _ refl) (quiet-at _ _ refl)
 
 -- the last step of a kind's rule, on the held text
 abbrev pub lastCheck : ℕ → ℕ
@@ -116,8 +117,8 @@ unfolding ruleOf leiAnswer characters heldText remainderBy
 lei-rule s = refl
 
 -- field knows the kinds of a sheet
-known-iban-lei : (kind : ℕ) → T (sheetKind kind) → must (within 1 10 kind) (UnknownKind kind) 1 ≡ Pass
-known-iban-lei kind t = let w = within-ends 1 2 kind t in rw (within-yes 1 10 kind (w .0) (omega arith))
+known-iban-lei : (kind : ℕ) → T (sheetKind kind) → T (known kind)
+known-iban-lei kind t = by-kind (λ k. T (known k)) tt tt kind t
 
 check-is : (kind : ℕ) (s : List ℕ) → T (sheetKind kind)
     → checkField kind s ≡ answered (admission kind s) (characters kind s andThen lastStep kind (heldText kind s) orAccept 1)
@@ -156,12 +157,9 @@ summed-passes kind s t e =
 -- a text that fits is admitted, and a fresh check of it answers by its remainder
 module _ (kind : ℕ) (t : List ℕ) (f : Fit kind t) where
   fit-admitted : admission kind t ≡ Pass
-  unfolding admission
   fit-admitted =
       let l = fit-few kind t f in
-      passes-both _ _
-      (passes-both _ _ (known-iban-lei kind (f .known)) (rw (le-leb (length t) 1024 (omega arith))))
-      (rw (eq-eqb _ (length t) (ascii-prefix t (plain-ascii t (f .plain)))))
+      admitted kind t (known-iban-lei kind (f .known)) (omega arith) (ascii-prefix t (plain-ascii t (f .plain)))
 
   pub fresh : checkField kind t ≡ lastStep kind t orAccept 1
   fresh =
