@@ -12,7 +12,8 @@ use Rattle.answer.specs.declared.Step.the-variants.{Pass}
 use Rattle.answer.proofs.Laws.{both-pass, accepted-pass}
 use Rattle.text.specs.declared.Set.the-variants.{Digits}
 use Rattle.text.proofs.Low.{Low, low-none, low-one, low-place, low-join, low-then, low-first}
-use Rattle.amount.specs.Amount.{start, dot, part, fraction, validateAmount}
+use Rattle.text.specs.Field.{dot}
+use Rattle.amount.specs.Amount.{start, part, fraction, validateAmount}
 
 module _ (s : List ℕ) where
   start-low : Low s 0 (start s)

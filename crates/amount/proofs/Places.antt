@@ -7,7 +7,8 @@ use lib.Dec.{eqb}
 use lib.ListN.{length, getD}
 use Rattle.text.proofs.Fields.{first-most}
 use Rattle.text.proofs.Near.{Near, Small, Short, nears}
-use Rattle.amount.specs.Amount.{noMinus, start, dot, atMost, part, fraction, notZero, validateAmount}
+use Rattle.text.specs.Field.{dot}
+use Rattle.amount.specs.Amount.{noMinus, start, atMost, part, fraction, notZero, validateAmount}
 
 start-near : (s : List ℕ) → start s < 2 ^ 16
 unfolding start

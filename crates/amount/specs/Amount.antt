@@ -10,7 +10,7 @@ use Rattle.answer.specs.declared.Reason.the-variants.{Length, NotPositive, Miss
 use Rattle.answer.specs.declared.Step.{Step}
 use Rattle.answer.specs.declared.Step.the-variants.{Pass}
 use Rattle.text.specs.Ranges.{within}
-use Rattle.text.specs.Field.{firstPlace, present, firstWrong}
+use Rattle.text.specs.Field.{dot, present, firstWrong}
 use Rattle.text.specs.declared.Set.the-variants.{Digits}
 
 -- "`-` first, 7"
@@ -20,10 +20,6 @@ noMinus s = must (not (eqb (getD s 0 0) 45)) NotPositive (check 6 2)
 -- "one `+` is skipped": where the integer part starts
 unfoldable pub start : List ℕ → ℕ
 start s = cond (eqb (getD s 0 0) 43) 1 0
-
--- "split at the first `.`": where it stands, and the field's length where there is none
-abbrev pub dot : List ℕ → ℕ
-dot s = firstPlace 46 s
 
 -- no more than so many digits in the part that starts there; "number is that length"
 unfoldable pub atMost : ℕ → ℕ → ℕ → ℕ → Step
@@ -46,6 +42,7 @@ allZero (b ∷ s) = cond (within 49 57 b) false (allZero s)
 unfoldable pub notZero : List ℕ → Step
 notZero s = must (not (allZero s)) NotPositive (check 6 9)
 
+-- "split at the first `.`"
 unfoldable pub validateAmount : List ℕ → Answer
 validateAmount s =
     present 0 (length s) (check 6 1)

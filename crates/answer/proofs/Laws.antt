@@ -17,12 +17,12 @@ then-is p q t = cc
 pub accept-is : {r : Answer} {a a′ : Step} (n : ℕ) → r ≡ a orAccept n → a ≡ a′ → r ≡ a′ orAccept n
 accept-is n p q = cc
 
--- a step that stops is the word of the whole chain
+-- where a step stops, the whole chain stops with its reason
 pub stops : {a : Step} (r : Reason) (k : ℕ) (b : Step) → a ≡ Stop r k → a andThen b ≡ Stop r k
 unfolding _andThen_
 stops r k b e = rw e
 
--- a step that passes leaves the word to the next
+-- where a step passes, the chain says what the next step says
 pub passes : {a : Step} (b : Step) → a ≡ Pass → a andThen b ≡ b
 unfolding _andThen_
 passes b e = rw e

@@ -64,5 +64,5 @@ table =
     ∷ []
 
 pub worked : map (λ c. callOf (c .batch) (c .offset) (replicate (c .room) 9) (c .budget)) table ≡ map (λ c. c .says) table
-unfolding present classOf decimal numberWritten firstPlace lengthIs wrongFrom firstWrong leadOf needed wellFormed scalarOf charOf front charsPast widths validPrefix onList sameText wellSpelt codeRule countries countryAnswer cents.parsed cents.below64 cents.digitsAt cents.numberBetween cents.digits cents.whole cents.wholeNumber cents.past cents.fraction cents.worth cents.cents cents.parts cents.parseAmountCents admission ruleOf checkField _andThen_ _orAccept_ headOf answerBytes verdict verdictOf nextOf walk callOf
+unfolding present classOf decimal numberWritten firstPlace lengthIs wrongFrom firstWrong leadOf needed wellFormed scalarOf charOf front charsPast widths validPrefix onList sameText wellSpelt codeRule countries countryAnswer cents.below64 cents.digitsAt cents.numberBetween cents.digits cents.whole cents.wholeNumber cents.past cents.fraction cents.worth cents.cents cents.parts cents.parseAmountCents admission ruleOf checkField _andThen_ _orAccept_ headOf answerBytes verdict verdictOf nextOf walk callOf
 worked = refl

@@ -6,7 +6,7 @@ use lib.Dec.{eqb}
 use Rattle.answer.specs.declared.Reason.the-variants.{Remainder}
 use Rattle.text.proofs.Near.{Near, near-must}
 use Rattle.checkdigit.specs.Sum.{remainderOf, ibanRemainder}
-use Rattle.checkdigit.specs.Verdict.{remainderStep}
+use Rattle.checkdigit.specs.RemainderStep.{remainderStep}
 
 pub remainder-near : (t : List ℕ) (k : ℕ) → Near (remainderStep (remainderOf t) k)
 unfolding remainderStep remainderOf

@@ -2,4 +2,4 @@
 pub mod Letter
 pub mod Sum
 pub mod Fill
-pub mod Verdict
+pub mod RemainderStep

@@ -6,7 +6,7 @@ ghost use lib.ListN.{length};
 ghost use Rattle.checkdigit.specs.Letter.{letterValue};
 ghost use Rattle.checkdigit.specs.Sum.{characterValue, characterDigits, numberAfter, continued, remainderOf, ibanRemainder, Remains};
 ghost use Rattle.checkdigit.specs.Fill.{Fills};
-ghost use Rattle.checkdigit.specs.Verdict.{remainderStep};
+ghost use Rattle.checkdigit.specs.RemainderStep.{remainderStep};
 use answer::Reason;
 use answer::Step;
 
@@ -41,23 +41,24 @@ fn scale(b: u8) -> u64
     }
 }
 
-// A character's digits after a number's. The two choices do not wait for the number.
-fn step(n: u64, b: u8) -> u64
+// The number that n's decimal digits write, with those of a character's value after them. What the character adds and what it multiplies by
+// are found from the character alone, so that the processor has them ready before n, the result of the turn before, is known.
+fn with_character(n: u64, b: u8) -> u64
     requires { ⌜ n < 10 ^ 17 ⌝ }
     ensures { λ r. ⌜ r ≡ numberAfter n (b ∷ []) ⌝ }
 {
     n * scale(b) + value(b)
 }
 
-// The remainder of a number so small that n / 97 is n * 10811 / 2^20: a division by 97 itself takes longer.
-fn rest(n: u64) -> u64
+// The remainder by 97. Below 10,000 n / 97 is n * 10811 / 2^20, which is a product and a shift: a division would take longer.
+fn small_remainder(n: u64) -> u64
     requires { ⌜ n < 10000 ⌝ }
     ensures { λ r. ⌜ r ≡ n % 97 ⌝ }
 {
     n - n * 10811 / 1_048_576 * 97
 }
 
-// The remainder of r's digits with the text's after them, one character at a time.
+// The same as mod97 for an r that is a remainder already, one character at a time.
 fn onward(r: u64, t: &[u8]) -> u64
     requires { ⌜ r < 97 ⌝ }
     ensures { λ x. ⌜ Remains (continued r (now (t .entry))) x ⌝ }
@@ -65,27 +66,27 @@ fn onward(r: u64, t: &[u8]) -> u64
     let mut remainder = r;
     let mut i = 0;
     while i < t.len() {
-        remainder = rest(step(remainder, t[i]));
+        remainder = small_remainder(with_character(remainder, t[i]));
         i += 1;
     }
     remainder
 }
 
-// The same of any number.
+// The remainder of the number that r's decimal digits write, with the text's after them: a sum that was begun goes on.
 pub fn mod97(r: u64, t: &[u8]) -> u64
     ensures { λ x. ⌜ Remains (continued r (now (t .entry))) x ⌝ }
 {
     onward(r % 97, t)
 }
 
-// Of the text as it stands: an LEI's.
+// The remainder of the text as it stands, which is an LEI's.
 pub fn remainder(t: &[u8]) -> u64
     ensures { λ x. ⌜ Remains (remainderOf (now (t .entry))) x ⌝ }
 {
     onward(0, t)
 }
 
-// Of the text with its first four characters moved to the end; a shorter one stays as it is.
+// The remainder of the text with its first four characters moved to the end, which is an IBAN's. A text of fewer than four stays as it is.
 pub fn iban_remainder(t: &[u8]) -> u64
     ensures { λ x. ⌜ Remains (ibanRemainder (now (t .entry))) x ⌝ }
 {

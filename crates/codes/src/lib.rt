@@ -9,7 +9,7 @@ use answer::Reason;
 use answer::Step;
 use text::Set;
 
-// The steps before the list, for a code of n bytes.
+// The steps that come before the search in the list, for a code of n bytes.
 pub fn well_spelt(kind: u8, n: usize, s: &[u8]) -> Step
     ensures { λ r. ⌜ r ≡ wellSpelt kind n (now (s .entry)) ⌝ }
 {
@@ -31,14 +31,15 @@ pub fn by_list(kind: u8, listed: bool) -> Answer
     }
 }
 
-// Three bytes as one number; a code of two has 0 before it.
-pub fn number(a: u8, b: u8, c: u8) -> u32
+// Three bytes packed into one number, the first the highest, so that one comparison compares a whole code. A code of two bytes has 0 for
+// the first.
+pub fn pack(a: u8, b: u8, c: u8) -> u32
     ensures { λ r. ⌜ r ≡ 65536 * a + 256 * b + c ⌝ }
 {
     65536 * a as u32 + 256 * b as u32 + c as u32
 }
 
-// Whether a code stands in a table.
+// Whether a packed code stands in a table of them.
 pub fn among(table: &[u32], code: u32) -> bool
     ensures { λ r. ⌜ r ≡ among (now (table .entry)) code ⌝ }
 {

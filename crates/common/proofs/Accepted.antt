@@ -13,7 +13,8 @@ use Rattle.answer.proofs.Laws.{both-pass, accepted-pass}
 use Rattle.text.specs.declared.Set.the-variants.{Digits}
 use Rattle.text.proofs.Ranges.{both-parts}
 use Rattle.text.proofs.Low.{Low, low-none, low-one, low-place, low-join, low-then, low-first}
-use Rattle.common.specs.Cents.{digitsAt, digits, whole, dot, past, fraction, cents, parts, parseAmountCents, parseAmountCentsLenient}
+use Rattle.text.specs.Field.{dot}
+use Rattle.common.specs.Cents.{digitsAt, digits, whole, past, fraction, cents, parts, parseAmountCents, parseAmountCentsLenient}
 
 module _ (s : List ℕ) where
   plus-low : (from to : ℕ) → Low s from (digitsAt s from to)

@@ -2,4 +2,5 @@
 pub mod Reading
 pub mod Accepted
 pub mod Places
+pub mod Promises
 pub mod Worked

@@ -11,7 +11,8 @@ use Rattle.answer.specs.declared.Step.the-variants.{Pass}
 use Rattle.answer.proofs.Laws.{test-held, both-pass}
 use Rattle.text.proofs.Fields.{first-most}
 use Rattle.text.proofs.Near.{Near, Small, Short, small-accept, nears}
-use Rattle.common.specs.Cents.{below64, digitsAt, digits, whole, dot, past, fraction, cents, parts, parseAmountCents, parseAmountCentsLenient}
+use Rattle.text.specs.Field.{dot}
+use Rattle.common.specs.Cents.{below64, digitsAt, digits, whole, past, fraction, cents, parts, parseAmountCents, parseAmountCentsLenient}
 
 one-more : (t : Bool) (n : ℕ) → n ≤ 65000 → cond t (n + 1) n < 2 ^ 16
 one-more true n h = omega arith

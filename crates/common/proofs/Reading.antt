@@ -16,7 +16,7 @@ use Rattle.answer.specs.declared.Step.{Step}
 use Rattle.answer.specs.declared.Step.the-variants.{Pass, Stop}
 use Rattle.text.specs.Class.{isDigit}
 use Rattle.text.specs.Decimal.{digitOf}
-use Rattle.text.specs.Field.{firstPlace, firstWrong, wrongFrom}
+use Rattle.text.specs.Field.{dot, firstPlace, firstWrong, wrongFrom}
 use Rattle.text.specs.Ranges.{within}
 use Rattle.text.specs.declared.Set.the-variants.{Digits}
 use Rattle.text.proofs.Decimals.{number-none, number-more, number-grows}
@@ -24,7 +24,8 @@ use Rattle.text.proofs.Fields.{wrong-on, digits-most}
 use Rattle.text.proofs.Ranges.{is-false, within-yes, within-ends}
 use Rattle.answer.proofs.Laws.{both-pass}
 use Rattle.text.specs.Field.{present}
-use Rattle.common.specs.Cents.{parsed, below64, digitsAt, numberBetween, digits, whole, wholeNumber, dot, past, fraction, worth, cents, parts}
+use Rattle.common.specs.Cents.{below64, digitsAt, numberBetween, digits, whole, wholeNumber, past, fraction, worth, cents, parts}
+use Rattle.common.specs.Inner.{parsed}
 use Rattle.common.specs.declared.Parsed.the-variants.{Is, Not}
 
 parsed-is : (t : Step) (n m : ℕ) → parsed t n ≡ Is m → (t ≡ Pass) × (m ≡ n)

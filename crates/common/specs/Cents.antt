@@ -8,18 +8,11 @@ use Rattle.answer.specs.Steps.{check, must, _andThen_, _orAccept_}
 use Rattle.answer.specs.declared.Answer.{Answer}
 use Rattle.answer.specs.declared.Reason.the-variants.{Length, Missing, TooLarge}
 use Rattle.answer.specs.declared.Step.{Step}
-use Rattle.answer.specs.declared.Step.the-variants.{Pass, Stop}
+use Rattle.answer.specs.declared.Step.the-variants.{Pass}
 use Rattle.text.specs.Decimal.{numberWritten}
-use Rattle.text.specs.Field.{firstPlace, present, firstWrong}
+use Rattle.text.specs.Field.{dot, present, firstWrong}
 use Rattle.text.specs.Ranges.{within}
 use Rattle.text.specs.declared.Set.the-variants.{Digits}
-use Rattle.common.specs.declared.Parsed.{Parsed}
-use Rattle.common.specs.declared.Parsed.the-variants.{Is, Not}
-
--- the number of a part that passed its steps, or the step that refused it
-unfoldable pub parsed : Step → ℕ → Parsed
-parsed Pass n = Is n
-parsed (Stop r k) n = Not r k
 
 -- in each step, k is its check number; the numbers of a row of steps follow each other
 -- "2^64 or more, 9"
@@ -46,11 +39,7 @@ whole s from to k = present (digitsAt s from to) to k andThen digits s (digitsAt
 unfoldable pub wholeNumber : List ℕ → ℕ → ℕ → ℕ
 wholeNumber s from to = numberBetween s (digitsAt s from to) to
 
--- the first `.`, and the field's length where there is none
-abbrev pub dot : List ℕ → ℕ
-dot s = firstPlace 46 s
-
--- the first place after it, and the field's length where there is none
+-- the first place after the `.` at a place, and the field's length where there is none
 unfoldable pub past : List ℕ → ℕ → ℕ
 past s dot = cond (ltb dot (length s)) (dot + 1) (length s)
 

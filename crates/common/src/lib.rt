@@ -6,8 +6,8 @@ ghost use Rattle.answer.specs.Steps.{_andThen_, _orAccept_};
 ghost use Rattle.answer.specs.declared.Reason.{Reason};
 ghost use Rattle.answer.specs.declared.Step.{Step};
 ghost use Rattle.text.specs.Field.{firstPlace};
+ghost use Rattle.common.specs.Inner.{parsed};
 ghost use Rattle.common.specs.Cents.{
-  parsed,
   below64,
   digitsAt,
   numberBetween,
@@ -28,7 +28,7 @@ use answer::Step;
 use text::Set;
 
 // What reading a part gives: its number, or the refusal of the step that failed.
-pub enum Parsed {
+enum Parsed {
     Is(u64),
     Not(Reason, u32),
 }
@@ -45,7 +45,8 @@ fn digits_at(s: &[u8], from: usize, to: usize) -> usize
     }
 }
 
-// What is told of digits whose number is past 64 bits: the first non-digit among the rest of them, and else that it is too large.
+// The answer for digits that write 2^64 or more. A non-digit among those not read yet is refused before the number is, so they were looked
+// through: `rest` is what that search said.
 fn past_limit(rest: Step, check: u16) -> Parsed
     ensures { λ r. ⌜ r ≡ parsed (rest andThen Step.Stop Reason.TooLarge (check + 1)) 0 ⌝ }
 {
@@ -55,7 +56,7 @@ fn past_limit(rest: Step, check: u16) -> Parsed
     }
 }
 
-// Digits in one pass; past 64 bits the rest of them is only looked through.
+// Digits, read in one pass. Once their number is 2^64 or more it is not computed any more, and the other bytes are only tested.
 fn digits(s: &[u8], at: usize, to: usize, check: u16) -> Parsed
     requires { ⌜ (at ≤ to) × (to ≤ length (now s)) × (check ≤ 2000) ⌝ }
     ensures { λ r. ⌜ r ≡ parsed (digits (now (s .entry)) at to check) (numberBetween (now (s .entry)) at to) ⌝ }
@@ -90,7 +91,7 @@ fn whole(s: &[u8], from: usize, to: usize, check: u16) -> Parsed
     digits(s, at, to, check + 1)
 }
 
-// The bytes after the `.`, no fewer than least and no more than two, as cents.
+// The bytes from a place on, which stand after the `.`: what they are worth in cents. There are at least `least` of them and at most two.
 fn fraction(least: usize, s: &[u8], from: usize, check: u16) -> Parsed
     requires { ⌜ (from ≤ length (now s)) × (check ≤ 1800) ⌝ }
     ensures { λ r. ⌜ r ≡ parsed (fraction least (now (s .entry)) from check) (worth (now (s .entry)) from) ⌝ }
@@ -128,7 +129,7 @@ fn past(s: &[u8], dot: usize) -> usize
     if dot < s.len() { dot + 1 } else { s.len() }
 }
 
-// A hundred times the first and the second, where that is below 2^64.
+// The cents of n whole units and m hundredths, where they are below 2^64.
 fn total(n: u64, m: u64, check: u16) -> Answer
     ensures { λ r. ⌜ r ≡ below64 (100 * n + m) check orAccept (100 * n + m) ⌝ }
 {
@@ -139,7 +140,8 @@ fn total(n: u64, m: u64, check: u16) -> Answer
     }
 }
 
-// The steps that the two kinds share; they differ in the fewest bytes after the `.` and in their check numbers.
+// The steps that the two kinds share. The kinds differ in `least`, the fewest bytes that may stand after the `.`, and in their check numbers,
+// which count on from `check`.
 fn parts(least: usize, s: &[u8], dot: usize, check: u16) -> Answer
     requires { ⌜ (dot ≡ firstPlace 46 (now s)) × (check ≤ 1000) ⌝ }
     ensures { λ r. ⌜ r ≡ parts least (now (s .entry)) check orAccept cents (now (s .entry)) ⌝ }

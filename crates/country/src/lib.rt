@@ -6,7 +6,7 @@ ghost use Rattle.country.specs.Country.{countries, countryAnswer};
 use answer::Answer;
 use answer::Step;
 
-// The codes in the list's order, each its letters' bytes as one number.
+// The codes in the list's order, each packed into one number (codes::pack).
 const COUNTRIES: [u32; 250] = [
     0x4144,
     0x4145,
@@ -260,7 +260,8 @@ const COUNTRIES: [u32; 250] = [
     0x584B,
 ];
 
-// The table is copied once and lent: indexed where it stands, it would be built anew at each turn.
+// The table is copied to a local before the search. The compiler builds a constant array anew on the stack wherever the code indexes it, which
+// in the search's loop would be once a turn.
 fn listed(code: u32) -> bool
     ensures { λ r. ⌜ r ≡ among (map packed countries) code ⌝ }
 {
@@ -272,7 +273,7 @@ pub fn validate_country(s: &[u8]) -> Answer
     ensures { λ r. ⌜ r ≡ countryAnswer (now (s .entry)) ⌝ }
 {
     match codes::well_spelt(7, 2, s) {
-        Step::Pass => codes::by_list(7, listed(codes::number(0, text::at(s, 0), text::at(s, 1)))),
+        Step::Pass => codes::by_list(7, listed(codes::pack(0, text::at(s, 0), text::at(s, 1)))),
         Step::Stop(reason, check) => Answer::Refused(reason, check),
     }
 }

@@ -6,7 +6,7 @@ ghost use Rattle.currency.specs.Currency.{currencies, currencyAnswer};
 use answer::Answer;
 use answer::Step;
 
-// The codes in the list's order, each its letters' bytes as one number.
+// The codes in the list's order, each packed into one number (codes::pack).
 const CURRENCIES: [u32; 183] = [
     0x414544,
     0x41464E,
@@ -193,7 +193,8 @@ const CURRENCIES: [u32; 183] = [
     0x425952,
 ];
 
-// The table is copied once and lent: indexed where it stands, it would be built anew at each turn.
+// The table is copied to a local before the search. The compiler builds a constant array anew on the stack wherever the code indexes it, which
+// in the search's loop would be once a turn.
 fn listed(code: u32) -> bool
     ensures { λ r. ⌜ r ≡ among (map packed currencies) code ⌝ }
 {
@@ -207,7 +208,7 @@ pub fn validate_currency(s: &[u8]) -> Answer
     match codes::well_spelt(8, 3, s) {
         Step::Pass => codes::by_list(
             8,
-            listed(codes::number(text::at(s, 0), text::at(s, 1), text::at(s, 2))),
+            listed(codes::pack(text::at(s, 0), text::at(s, 1), text::at(s, 2))),
         ),
         Step::Stop(reason, check) => Answer::Refused(reason, check),
     }

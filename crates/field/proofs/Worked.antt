@@ -15,7 +15,7 @@ use Rattle.utf8.specs.Chars.{charsPast, widths, validPrefix}
 use Rattle.utf8.specs.Space.{whiteSpace}
 use Rattle.checkdigit.specs.Letter.{letterValue}
 use Rattle.checkdigit.specs.Sum.{characterValue, characterDigits, expand, remainderOf, rearranged, ibanRemainder}
-use Rattle.checkdigit.specs.Verdict.{remainderStep}
+use Rattle.checkdigit.specs.RemainderStep.{remainderStep}
 use Rattle.iban.specs.Electronic.{electronicFrom, electronic, textOf, placeIn}
 use Rattle.iban.specs.Iban.{allAscii, asciiStep, countStep, classSteps, reasonIn, ibanCharacters, ibanAnswer}
 use Rattle.lei.specs.Lei.{leiCharacters, leiAnswer}
@@ -53,5 +53,5 @@ table =
     ∷ []
 
 pub small-table : map (λ c. numbersOf (checkField (c .kind) (bytesOf (c .text)))) table ≡ map (λ c. c .says) table
-unfolding classOf decimal numberWritten firstPlace lengthIs wrongFrom firstWrong leadOf needed wellFormed scalarOf charOf front charsPast widths validPrefix whiteSpace letterValue characterValue characterDigits expand remainderOf rearranged ibanRemainder remainderStep electronicFrom electronic textOf placeIn allAscii asciiStep countStep classSteps reasonIn ibanCharacters ibanAnswer leiCharacters leiAnswer present noMinus start atMost part fraction allZero notZero validateAmount cents.parsed cents.below64 cents.digitsAt cents.numberBetween cents.digits cents.whole cents.wholeNumber cents.past cents.fraction cents.worth cents.cents cents.parts cents.parseAmountCents cents.parseAmountCentsLenient admission ruleOf checkField _andThen_ _orAccept_
+unfolding classOf decimal numberWritten firstPlace lengthIs wrongFrom firstWrong leadOf needed wellFormed scalarOf charOf front charsPast widths validPrefix whiteSpace letterValue characterValue characterDigits expand remainderOf rearranged ibanRemainder remainderStep electronicFrom electronic textOf placeIn allAscii asciiStep countStep classSteps reasonIn ibanCharacters ibanAnswer leiCharacters leiAnswer present noMinus start atMost part fraction allZero notZero validateAmount cents.below64 cents.digitsAt cents.numberBetween cents.digits cents.whole cents.wholeNumber cents.past cents.fraction cents.worth cents.cents cents.parts cents.parseAmountCents cents.parseAmountCentsLenient admission ruleOf checkField _andThen_ _orAccept_
 small-table = refl

@@ -14,7 +14,7 @@ use Rattle.answer.proofs.Laws.{both-pass, test-held}
 use Rattle.text.specs.Ranges.{within}
 use Rattle.text.proofs.Ranges.{within-ends}
 use Rattle.checkdigit.specs.Sum.{ibanRemainder}
-use Rattle.checkdigit.specs.Verdict.{remainderStep}
+use Rattle.checkdigit.specs.RemainderStep.{remainderStep}
 use Rattle.iban.specs.Electronic.{Character, electronic, electronicText}
 use Rattle.iban.specs.Iban.{asciiStep, countStep, classSteps, reasonIn, stepIn, ibanCharacters, ibanAnswer}
 use Rattle.iban.specs.Format.{padded, formatBy, formatOf}

@@ -14,7 +14,7 @@ use Rattle.utf8.specs.Chars.{charsPast, widths, validPrefix}
 use Rattle.utf8.specs.Space.{whiteSpace}
 use Rattle.checkdigit.specs.Letter.{letterValue}
 use Rattle.checkdigit.specs.Sum.{characterValue, characterDigits, expand, remainderOf, rearranged, ibanRemainder}
-use Rattle.checkdigit.specs.Verdict.{remainderStep}
+use Rattle.checkdigit.specs.RemainderStep.{remainderStep}
 use Rattle.iban.specs.Electronic.{electronicFrom, electronic, textOf, placeIn}
 use Rattle.iban.specs.Iban.{allAscii, asciiStep, countStep, classSteps, reasonIn, ibanCharacters, ibanAnswer}
 

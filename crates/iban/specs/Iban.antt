@@ -17,7 +17,7 @@ use Rattle.text.specs.Field.{firstWrong}
 use Rattle.text.specs.declared.Set.the-variants.{Digits, Capitals, LettersDigits}
 use Rattle.utf8.specs.Chars.{validPrefix}
 use Rattle.checkdigit.specs.Sum.{ibanRemainder}
-use Rattle.checkdigit.specs.Verdict.{remainderStep}
+use Rattle.checkdigit.specs.RemainderStep.{remainderStep}
 use Rattle.iban.specs.Electronic.{Character, electronic, electronicText, placeIn}
 
 -- the first character that is not ASCII: 3 at its place

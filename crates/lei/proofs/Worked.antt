@@ -11,7 +11,7 @@ use Rattle.text.specs.Field.{lengthIs, firstWrong, wrongFrom}
 use Rattle.text.specs.Quote.{bytesOf}
 use Rattle.checkdigit.specs.Letter.{letterValue}
 use Rattle.checkdigit.specs.Sum.{characterValue, characterDigits, expand, remainderOf}
-use Rattle.checkdigit.specs.Verdict.{remainderStep}
+use Rattle.checkdigit.specs.RemainderStep.{remainderStep}
 use Rattle.lei.specs.Lei.{leiCharacters, leiAnswer}
 
 abbrev texts : List String

@@ -8,7 +8,7 @@ use Rattle.answer.specs.declared.Step.{Step}
 use Rattle.text.specs.Field.{lengthIs, firstWrong}
 use Rattle.text.specs.declared.Set.the-variants.{Digits, CapitalsDigits}
 use Rattle.checkdigit.specs.Sum.{remainderOf}
-use Rattle.checkdigit.specs.Verdict.{remainderStep}
+use Rattle.checkdigit.specs.RemainderStep.{remainderStep}
 
 -- 20 bytes; the first character that is no capital and no digit; bytes 18 and 19 digits
 unfoldable pub leiCharacters : List ℕ → Step

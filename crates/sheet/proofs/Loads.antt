@@ -22,7 +22,7 @@ use Rattle.text.specs.Field.{lengthIs, wrongFrom, firstWrong}
 use Rattle.text.specs.declared.Set.{Set}
 use Rattle.text.proofs.Ranges.{is-true, within-yes, within-ends}
 use Rattle.utf8.proofs.Ascii.{ascii-prefix}
-use Rattle.checkdigit.specs.Verdict.{remainderStep}
+use Rattle.checkdigit.specs.RemainderStep.{remainderStep}
 use Rattle.iban.specs.Electronic.{Character, placeIn}
 use Rattle.iban.specs.Iban.{allAscii, asciiStep, countStep, classSteps, reasonIn, stepIn, ibanCharacters, ibanAnswer}
 use Rattle.iban.specs.Format.{padded, formatBy, formatOf}

@@ -20,7 +20,7 @@ use Rattle.text.specs.Class.{allowed}
 use Rattle.text.specs.declared.Set.the-variants.{LettersDigits}
 use Rattle.checkdigit.specs.Letter.{Slip}
 use Rattle.checkdigit.specs.Sum.{remainderOf, ibanRemainder, exchanged}
-use Rattle.checkdigit.specs.Verdict.{remainderStep}
+use Rattle.checkdigit.specs.RemainderStep.{remainderStep}
 use Rattle.checkdigit.proofs.Promises.{replaced-not-one, iban-replaced-not-one, exchanged-not-one, iban-exchanged-not-one, filled-one, iban-filled-one}
 use Rattle.field.specs.Field.{checkField}
 use Rattle.sheet.specs.Sheets.{sheetKind, heldText, characters, remainderBy, sheetOf, held}

@@ -16,7 +16,7 @@ use Rattle.answer.specs.declared.Step.{Step}
 use Rattle.answer.specs.declared.Step.the-variants.{Pass, Stop}
 use Rattle.text.specs.Class.{allowed, isDigit}
 use Rattle.text.specs.Decimal.{digitOf, numberWritten}
-use Rattle.text.specs.Field.{firstPlace, wrongFrom}
+use Rattle.text.specs.Field.{firstPlace, wrongFrom, inRange, digitsIn}
 use Rattle.text.specs.declared.Set.{Set}
 use Rattle.text.specs.declared.Set.the-variants.{Digits}
 use Rattle.text.proofs.Ranges.{both-of, every}
@@ -122,20 +122,43 @@ digits-most s i n k m h e =
     lt-of-lt-of-le (decimal-most (map digitOf t) (small-digits s i n k e))
     (pow-le-pow-right (omega arith) (omega (arith, length-map t digitOf, length-take n (drop i s))))
 
--- a pair of digits at a place: the first wrong one, or the number that they write
-module _ (s : List ℕ) (i k : ℕ) where
-  pub pair-first : isDigit (getD s i 0) ≡ false → wrongFrom Digits s i 2 k ≡ Stop (Wrong i) k
-  pair-first e = wrong-here Digits s i k 2 (omega arith) e
+-- digits that were found at a place, no more than four, stand inside the field and write a number below 10^4
+pub digits-there : (s : List ℕ) (i n k : ℕ) {r : Step} → 0 < n → n ≤ 4 → r ≡ wrongFrom Digits s i n k → r ≡ Pass
+    → (i + n ≤ length s) × (numberWritten (take n (drop i s)) < 10000)
+digits-there s i n k l m e p = let q = sym e ∙ p in (all-inside Digits s i n k l q, digits-most s i n k 4 m q)
 
-  pub pair-second : isDigit (getD s i 0) ≡ true → isDigit (getD s (i + 1) 0) ≡ false → wrongFrom Digits s i 2 k ≡ Stop (Wrong (i + 1)) k
-  pair-second e f = wrong-on Digits s i k 2 (omega arith) e ∙ wrong-here Digits s (i + 1) k 1 (omega arith) f
+-- a pair of digits at a place: the first wrong one, or the range of the number that they write. r says whether the byte a is a digit.
+module _ (s : List ℕ) (i : ℕ) where
+  pub digit-inside : {a : ℕ} {r : Bool} → a ≡ getD s i 0 → r ≡ isDigit a → r ≡ true → i < length s
+  digit-inside e d t = allowed-inside Digits s i (rw (← e, ← d, t) tt)
 
-  pub pair-passes : isDigit (getD s i 0) ≡ true → isDigit (getD s (i + 1) 0) ≡ true → wrongFrom Digits s i 2 k ≡ Pass
-  pair-passes e f =
-      wrong-on Digits s i k 2 (omega arith) e ∙ wrong-on Digits s (i + 1) k 1 (omega arith) f ∙ sym (wrong-none Digits s (i + 1 + 1) k)
+  pair-number : i + 1 < length s → numberWritten (take 2 (drop i s)) ≡ 10 * digitOf (getD s i 0) + digitOf (getD s (i + 1) 0)
+  pair-number h =
+      let l = drop i s in
+      let n : 1 < length l = omega (arith, length-drop i s) in
+      omega (arith, number-more l 1 n, number-more l 0 (omega arith), number-none, rw (add-zero i) at (getD-drop i s 0 0), getD-drop i s 1 0)
 
-pub pair-number : (s : List ℕ) (i : ℕ) → i + 1 < length s → numberWritten (take 2 (drop i s)) ≡ 10 * digitOf (getD s i 0) + digitOf (getD s (i + 1) 0)
-pair-number s i h =
-    let l = drop i s in
-    let n : 1 < length l = omega (arith, length-drop i s) in
-    omega (arith, number-more l 1 n, number-more l 0 (omega arith), number-none, rw (add-zero i) at (getD-drop i s 0 0), getD-drop i s 1 0)
+  module _ (low high k : ℕ) {a : ℕ} {r : Bool} (e : a ≡ getD s i 0) (d : r ≡ isDigit a) where
+    pub pair-first : r ≡ false → Stop (Wrong i) k ≡ digitsIn 2 s i low high k
+    unfolding digitsIn _andThen_
+    pair-first t = rw (wrong-here Digits s i k 2 (omega arith) (rw (← e, ← d) t))
+
+    module _ (t : r ≡ true) {b : ℕ} {q : Bool} (f : b ≡ getD s (i + 1) 0) (g : q ≡ isDigit b) where
+      pub pair-second : q ≡ false → Stop (Wrong (i + 1)) k ≡ digitsIn 2 s i low high k
+      unfolding digitsIn _andThen_
+      pair-second u = rw (wrong-on Digits s i k 2 (omega arith) (rw (← e, ← d) t), wrong-here Digits s (i + 1) k 1 (omega arith) (rw (← f, ← g) u))
+
+      pub pair-range : {x y : ℕ} {z : Step} → q ≡ true → x ≡ digitOf a → y ≡ digitOf b → z ≡ inRange i low high (10 * x + y) (k + 1) → z ≡ digitsIn 2 s i low high k
+      unfolding digitsIn _andThen_
+      pair-range u v w h =
+          h
+          ∙ rw (
+            wrong-on Digits s i k 2 (omega arith) (rw (← e, ← d) t),
+            wrong-on Digits s (i + 1) k 1 (omega arith) (rw (← f, ← g) u),
+            ← wrong-none Digits s (i + 1 + 1) k,
+            pair-number (allowed-inside Digits s (i + 1) (rw (← f, ← g, u) tt)),
+            v,
+            w,
+            e,
+            f,
+          )

@@ -19,6 +19,10 @@ unfoldable pub firstPlace : ℕ → List ℕ → ℕ
 firstPlace b [] = 0
 firstPlace b (x ∷ s) = cond (eqb x b) 0 (suc (firstPlace b s))
 
+-- the place of the first `.`, and the field's length where there is none
+abbrev pub dot : List ℕ → ℕ
+dot s = firstPlace 0x2E s
+
 -- in each step, k is its check number
 -- n bytes, no more and no fewer
 unfoldable pub lengthIs : ℕ → List ℕ → ℕ → Step

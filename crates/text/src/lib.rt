@@ -134,7 +134,8 @@ fn digit(b: u8) -> u64
     if b < 48 { 0 } else { wide(b - 48) }
 }
 
-// Whether a number with one decimal digit more is below 2^64. Below 10^18 it always is, and nothing is computed.
+// Whether the number that n's decimal digits write, with the digit d after them, is below 2^64. Where n is below 10^18 it always is: this
+// test comes first, as it needs no sum.
 pub fn has_room(n: u64, d: u64) -> bool
     ensures { λ r. ⌜ r ≡ ltb (n * 10 + d) (2 ^ 64) ⌝ }
 {
@@ -194,7 +195,7 @@ pub fn length_is(s: &[u8], n: usize, check: u16) -> Step
     }
 }
 
-// A byte stands at a place, before the end of its part.
+// A part of the field has a byte at a place, which is before the part's end.
 pub fn present(at: usize, end: usize, check: u16) -> Step
     ensures { λ r. ⌜ r ≡ present at end check ⌝ }
 {
@@ -259,7 +260,7 @@ pub fn in_range(i: usize, low: u64, high: u64, n: u64, check: u32) -> Step
     }
 }
 
-// The number that n digits at a place write; digits_in calls it only where they stand there.
+// The number that n digits at a place write. It is asked for only where n digits stand there.
 fn value_at(s: &[u8], i: usize, n: usize) -> u64
     requires { ⌜ (i + n ≤ length (now s)) × (numberWritten (take n (drop i (now s))) < 10000) ⌝ }
     ensures { λ r. ⌜ r ≡ numberWritten (take n (drop i (now (s .entry)))) ⌝ }
@@ -273,7 +274,7 @@ fn value_at(s: &[u8], i: usize, n: usize) -> u64
     v
 }
 
-// n digits at a place, and then their range, whose check number is the next.
+// n digits at a place, and then the range of the number that they write. The range is a step of its own, whose check number is one more.
 fn digits_in(n: usize, s: &[u8], i: usize, low: u64, high: u64, check: u16) -> Step
     requires { ⌜ (1 ≤ n) × (n ≤ 4) ⌝ }
     ensures { λ r. ⌜ r ≡ digitsIn n (now (s .entry)) i low high check ⌝ }
@@ -284,7 +285,8 @@ fn digits_in(n: usize, s: &[u8], i: usize, low: u64, high: u64, check: u16) -> S
     }
 }
 
-// The commonest pair of steps, in one straight line. A digit stands at i, so the next place fits.
+// Two digits at a place, and then their range: what digits_in(2, ..) would say, without its loops, for the hours, minutes and days that most
+// fields with a date have. Where the byte at i is a digit, i is inside the field, so that i + 1 does not wrap.
 pub fn two_digits(s: &[u8], i: usize, low: u64, high: u64, check: u16) -> Step
     ensures { λ r. ⌜ r ≡ twoDigits (now (s .entry)) i low high check ⌝ }
 {

@@ -32,5 +32,5 @@ pub worked : map (λ (b : List ℕ). outputOf b 0) inputs
     ∷ bytesOf "offset kind answer place number\n0 7 0 0 0\nstop 33 judged 1 read 6\n"
     ∷ bytesOf "offset kind answer place number\n0 7 0 0 0\n6 9 0 0 100050\nstop 35 judged 2 read 17\n"
     ∷ []
-unfolding present classOf decimal numberWritten firstPlace lengthIs wrongFrom firstWrong leadOf needed wellFormed scalarOf charOf front charsPast widths validPrefix onList sameText wellSpelt codeRule countries countryAnswer cents.parsed cents.below64 cents.digitsAt cents.numberBetween cents.digits cents.whole cents.wholeNumber cents.past cents.fraction cents.worth cents.cents cents.parts cents.parseAmountCents admission ruleOf checkField _andThen_ _orAccept_ headOf answerBytes verdict recordsPast sizes verdictOf verdictsOf decimalDigitsIn decimalDigits field numbersLine verdictLine verdictLines heading named lastLine outputOf
+unfolding present classOf decimal numberWritten firstPlace lengthIs wrongFrom firstWrong leadOf needed wellFormed scalarOf charOf front charsPast widths validPrefix onList sameText wellSpelt codeRule countries countryAnswer cents.below64 cents.digitsAt cents.numberBetween cents.digits cents.whole cents.wholeNumber cents.past cents.fraction cents.worth cents.cents cents.parts cents.parseAmountCents admission ruleOf checkField _andThen_ _orAccept_ headOf answerBytes verdict recordsPast sizes verdictOf verdictsOf decimalDigitsIn decimalDigits field numbersLine verdictLine verdictLines heading named lastLine outputOf
 worked = refl

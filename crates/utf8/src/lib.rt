@@ -65,7 +65,7 @@ pub fn is_white_space(c: u32) -> bool
     }
 }
 
-// Where the width asks for a k-th byte, it is from low to high.
+// Where a character of w bytes has a k-th byte, that byte is from low to high.
 fn need(k: usize, w: usize, low: u8, high: u8, x: u8) -> bool
     ensures { λ r. ⌜ r ≡ needed k w low high x ⌝ }
 {
@@ -78,7 +78,7 @@ fn need(k: usize, w: usize, low: u8, high: u8, x: u8) -> bool
     x <= high
 }
 
-// A first byte of which `l` is said may stand before b, c and d.
+// The bytes b, c and d may follow a first byte whose row is `l`, as far as its character has them.
 fn well_formed(l: Lead, b: u8, c: u8, d: u8) -> bool
     ensures { λ r. ⌜ r ≡ wellFormed l b c d ⌝ }
 {
@@ -125,7 +125,7 @@ fn scalar(w: usize, a: u8, b: u8, c: u8, d: u8) -> u32
     joined(joined(joined(wide(a % 8), b), c), d)
 }
 
-// The character that starts at a place, by its first byte's row.
+// The character that starts at a place, by the row of RFC 3629's table that its first byte has.
 fn by_row(s: &[u8], at: usize) -> Decoded
     requires { ⌜ at < length (now s) ⌝ }
     ensures { λ r. ⌜ r ≡ front (drop at (now (s .entry))) ⌝ }
@@ -145,7 +145,7 @@ fn by_row(s: &[u8], at: usize) -> Decoded
     Decoded::Bad
 }
 
-// The character that starts at a place. An ASCII byte needs no look at the rows.
+// The character that starts at a place. An ASCII byte is a character by itself, and needs no look at the table.
 pub fn decode(s: &[u8], at: usize) -> Decoded
     ensures { λ r. ⌜ r ≡ front (drop at (now (s .entry))) ⌝ }
 {
@@ -162,7 +162,8 @@ pub fn decode(s: &[u8], at: usize) -> Decoded
     by_row(s, at)
 }
 
-// The bits that any of eight bytes has; the compiler reads them at once.
+// The bits that are set in any of eight bytes. A byte beyond ASCII has its highest bit set, so the result is below 128 exactly where all eight
+// are ASCII. The compiler reads the eight as one word.
 fn bits_of_eight(s: &[u8], i: usize) -> u8
     requires { ⌜ i + 8 ≤ length (now s) ⌝ }
     ensures { λ r. ⌜ ltb r 128 ≡ ascii (take 8 (drop i (now (s .entry)))) ⌝ }
@@ -170,7 +171,7 @@ fn bits_of_eight(s: &[u8], i: usize) -> u8
     s[i] | (s[i + 1] | (s[i + 2] | (s[i + 3] | (s[i + 4] | (s[i + 5] | (s[i + 6] | s[i + 7]))))))
 }
 
-// Of a text of fewer bytes, one at a time.
+// Whether a text is ASCII, one byte at a time: for texts that have no eight bytes.
 fn few_ascii(s: &[u8]) -> bool
     ensures { λ r. ⌜ r ≡ ascii (now (s .entry)) ⌝ }
 {
@@ -183,7 +184,8 @@ fn few_ascii(s: &[u8]) -> bool
     bits < 128
 }
 
-// Eight bytes at a time, and the last eight again, so that no loop over single bytes is left.
+// Eight bytes at a time. The last eight are looked at by themselves, some of them a second time, so that no loop over single bytes is needed for
+// those that eight does not divide.
 pub fn is_ascii(s: &[u8]) -> bool
     ensures { λ r. ⌜ r ≡ ascii (now (s .entry)) ⌝ }
 {
@@ -201,7 +203,8 @@ pub fn is_ascii(s: &[u8]) -> bool
     bits_of_eight(s, last) < 128
 }
 
-// The prefix, one character after the other. An ASCII byte is passed without a call.
+// The length of the longest well-formed prefix, found one character after the other. An ASCII byte is a character by itself, and needs no look
+// at the table.
 fn walked_prefix(s: &[u8]) -> usize
     ensures { λ r. ⌜ r ≡ validPrefix (now (s .entry)) ⌝ }
 {
@@ -223,7 +226,7 @@ fn walked_prefix(s: &[u8]) -> usize
     at
 }
 
-// The length of the longest well-formed prefix. Most fields are ASCII, and need no walk.
+// The length of the longest well-formed prefix. Most fields are ASCII, and so well-formed as a whole.
 pub fn valid_prefix(s: &[u8]) -> usize
     ensures { λ r. ⌜ r ≡ validPrefix (now (s .entry)) ⌝ }
 {

@@ -19,18 +19,18 @@ abbrev μ-loop : tie.MeasureT-loop
 loop-holds : tie.Need-loop-holds Inv-loop μ-loop
 loop-holds c = (omega arith, c .before .pre, continued-none _ (c .before .pre))
 
-shared-slice-read-step : tie.Need-shared-slice-read-step Inv-loop μ-loop
-shared-slice-read-step c = omega arith
+shared-slice-read-with-character : tie.Need-shared-slice-read-with-character Inv-loop μ-loop
+shared-slice-read-with-character c = omega arith
 
-step-requires : tie.Need-step-requires Inv-loop μ-loop
-step-requires c κs = omega arith
+with-character-requires : tie.Need-with-character-requires Inv-loop μ-loop
+with-character-requires c κs = omega arith
 
-rest-requires : tie.Need-rest-requires Inv-loop μ-loop
-rest-requires c κs =
+small-remainder-requires : tie.Need-small-remainder-requires Inv-loop μ-loop
+small-remainder-requires c κs =
     let l = c .before .before .before in
     let b = getD (l .before .before .args .t .now) (l .loop .i) 0 in
     let byte : b < 256 = omega (arith, c .before .shared-slice-known2 .given (l .loop .i)) in
-    omega (arith, c .step .ensures, after-most b byte (l .loop .remainder))
+    omega (arith, c .with-character .ensures, after-most b byte (l .loop .remainder))
 
 add-i : tie.Need-add-i Inv-loop μ-loop
 add-i c = omega arith
@@ -43,7 +43,7 @@ loop-again c =
     let l = c .before .before .before .before .loop in (
       omega arith,
       omega arith,
-      c .rest .ensures ∙ more _ _ (l .i) (l .remainder) _ (c .before .before .before .loop-test .taken) (l .inv .2) (c .before .step .ensures),
+      c .small-remainder .ensures ∙ more _ _ (l .i) (l .remainder) _ (c .before .before .before .loop-test .taken) (l .inv .2) (c .before .with-character .ensures),
     )
 
 returns : tie.Need-returns Inv-loop μ-loop
@@ -56,4 +56,4 @@ returns c =
 
 pub onward-spec : {M : Type 1} → statement M
 onward-spec =
-    tie.close (tie.spec Inv-loop μ-loop loop-holds shared-slice-read-step step-requires rest-requires add-i loop-less loop-again returns)
+    tie.close (tie.spec Inv-loop μ-loop loop-holds shared-slice-read-with-character with-character-requires small-remainder-requires add-i loop-less loop-again returns)

@@ -1,6 +1,6 @@
 -- `checkdigit::remainder_is_one` meets its contract: the test is the definition's.
 use borrow.Author.Tests.{eq-eqb, ne-eqb}
-use Rattle.checkdigit.specs.Verdict.{remainderStep}
+use Rattle.checkdigit.specs.RemainderStep.{remainderStep}
 use Rattle.checkdigit.proofs.remainder_is_one.Statement.{statement}
 use Rattle.checkdigit.proofs.remainder_is_one.Tie as tie
 

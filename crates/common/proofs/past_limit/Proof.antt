@@ -1,7 +1,7 @@
 -- `common::past_limit` meets its contract: the rest's refusal, or that the number is too large.
 use borrow.Author.Needs.{needs}
 use Rattle.answer.specs.Steps.{_andThen_}
-use Rattle.common.specs.Cents.{parsed}
+use Rattle.common.specs.Inner.{parsed}
 use Rattle.common.proofs.past_limit.Statement.{statement}
 use Rattle.common.proofs.past_limit.Tie as tie
 

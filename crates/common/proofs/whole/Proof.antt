@@ -2,7 +2,8 @@
 use borrow.Author.Tests.{lt-ltb, le-ltb}
 use borrow.Author.Needs.{needs}
 use Rattle.answer.specs.Steps.{_andThen_}
-use Rattle.common.specs.Cents.{parsed, whole, wholeNumber}
+use Rattle.common.specs.Cents.{whole, wholeNumber}
+use Rattle.common.specs.Inner.{parsed}
 use Rattle.text.specs.Field.{present}
 use Rattle.common.proofs.whole.Statement.{statement}
 use Rattle.common.proofs.whole.Tie as tie

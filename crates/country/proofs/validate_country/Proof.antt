@@ -20,8 +20,8 @@ at-requires c κs = search needs
 at-requires-2 : tie.Need-at-requires-2
 at-requires-2 c κs = search needs
 
-number-requires : tie.Need-number-requires
-number-requires c κs = search needs
+pack-requires : tie.Need-pack-requires
+pack-requires c κs = search needs
 
 listed-requires : tie.Need-listed-requires
 listed-requires c κs = search needs
@@ -39,8 +39,8 @@ returns c =
     let t = m .before .before .before in
     let w = t .before .before in
     c .by-list .ensures
-    ∙ by-number 7 2 (w .before .before .args .s .now) countries (m .number .result) (c .before .listed .result) formed (sym (w .well-spelt .ensures) ∙ t .enum-told .given .1)
-    (omega (arith, m .number .ensures, m .before .at2 .ensures, m .before .before .at .ensures)) (c .before .listed .ensures)
+    ∙ by-number 7 2 (w .before .before .args .s .now) countries (m .pack .result) (c .before .listed .result) formed (sym (w .well-spelt .ensures) ∙ t .enum-told .given .1)
+    (omega (arith, m .pack .ensures, m .before .at2 .ensures, m .before .before .at .ensures)) (c .before .listed .ensures)
 
 returns-2 : tie.Need-returns-2
 unfolding countryAnswer
@@ -56,7 +56,7 @@ validate-country-spec =
     enum-told
     at-requires
     at-requires-2
-    number-requires
+    pack-requires
     listed-requires
     by-list-requires
     enum-known-reason

@@ -23,8 +23,8 @@ at-requires-2 c κs = search needs
 at-requires-3 : tie.Need-at-requires-3
 at-requires-3 c κs = search needs
 
-number-requires : tie.Need-number-requires
-number-requires c κs = search needs
+pack-requires : tie.Need-pack-requires
+pack-requires c κs = search needs
 
 listed-requires : tie.Need-listed-requires
 listed-requires c κs = search needs
@@ -43,8 +43,8 @@ returns c =
     let t = b .before .before in
     let w = t .before .before in
     c .by-list .ensures
-    ∙ by-number 8 3 (w .before .before .args .s .now) currencies (m .number .result) (c .before .listed .result) formed (sym (w .well-spelt .ensures) ∙ t .enum-told .given .1)
-    (omega (arith, m .number .ensures, m .before .at3 .ensures, b .at2 .ensures, b .before .at .ensures)) (c .before .listed .ensures)
+    ∙ by-number 8 3 (w .before .before .args .s .now) currencies (m .pack .result) (c .before .listed .result) formed (sym (w .well-spelt .ensures) ∙ t .enum-told .given .1)
+    (omega (arith, m .pack .ensures, m .before .at3 .ensures, b .at2 .ensures, b .before .at .ensures)) (c .before .listed .ensures)
 
 returns-2 : tie.Need-returns-2
 unfolding currencyAnswer
@@ -61,7 +61,7 @@ validate-currency-spec =
     at-requires
     at-requires-2
     at-requires-3
-    number-requires
+    pack-requires
     listed-requires
     by-list-requires
     enum-known-reason

@@ -1,4 +1,4 @@
--- `datetime::validate_iso_date` meets its contract: a length that stops is the chain's word, and where it passes the date's steps are the chain.
+-- `datetime::validate_iso_date` meets its contract: where the length stops the answer is its refusal, and where it passes that of the other steps.
 use Rattle.answer.specs.Steps.{_andThen_, _orAccept_}
 use Rattle.answer.proofs.Laws.{accept-is}
 use Rattle.datetime.specs.Date.{dateAnswer}

@@ -5,7 +5,7 @@ use native.Mathlib.Omega.{arith}
 use borrow.Author.Needs.{needs}
 use Rattle.answer.proofs.Laws.{accept-is}
 use Rattle.checkdigit.specs.Sum.{ibanRemainder}
-use Rattle.checkdigit.specs.Verdict.{remainderStep}
+use Rattle.checkdigit.specs.RemainderStep.{remainderStep}
 use Rattle.iban.proofs.Formats.{room, text-is, sum-answers, step-answers}
 use Rattle.iban.proofs.validate_iban.Statement.{statement}
 use Rattle.iban.proofs.validate_iban.Tie as tie

@@ -1,10 +1,10 @@
--- `lei::validate_lei` meets its contract: the characters' word, and the sum's where they pass.
+-- `lei::validate_lei` meets its contract: where a character step stops the answer is its refusal, and where all pass that of the remainder.
 use mathlib.Core.Path.{_∙_, ap}
 use Prim.Native.Nat.{ℕ}
 use borrow.Author.Needs.{needs}
 use Rattle.answer.specs.Steps.{_andThen_, _orAccept_}
 use Rattle.answer.proofs.Laws.{accept-is}
-use Rattle.checkdigit.specs.Verdict.{remainderStep}
+use Rattle.checkdigit.specs.RemainderStep.{remainderStep}
 use Rattle.lei.specs.Lei.{leiAnswer}
 use Rattle.lei.proofs.validate_lei.Statement.{statement}
 use Rattle.lei.proofs.validate_lei.Tie as tie

@@ -1,4 +1,4 @@
--- `text::allows` meets its contract: the set's word on the byte's class.
+-- `text::allows` meets its contract: whether the set holds the byte's class.
 use borrow.Author.Needs.{needs}
 use Rattle.text.proofs.allows.Statement.{statement}
 use Rattle.text.proofs.allows.Tie as tie

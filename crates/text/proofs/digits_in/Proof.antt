@@ -1,12 +1,9 @@
 -- `text::digits_in` meets its contract: where the digits stand there they are inside the field and write a number below 10^4.
-use mathlib.Core.Path.{_≡_, sym, _∙_}
 use native.Mathlib.Omega.{arith}
 use borrow.Author.Needs.{needs}
 use Rattle.answer.specs.Steps.{_andThen_}
-use Rattle.answer.specs.declared.Step.the-variants.{Pass}
-use Rattle.text.specs.Field.{wrongFrom, digitsIn}
-use Rattle.text.specs.declared.Set.the-variants.{Digits}
-use Rattle.text.proofs.Fields.{all-inside, digits-most}
+use Rattle.text.specs.Field.{digitsIn}
+use Rattle.text.proofs.Fields.{digits-there}
 use Rattle.text.proofs.digits_in.Statement.{statement}
 use Rattle.text.proofs.digits_in.Tie as tie
 
@@ -17,11 +14,7 @@ enum-told : tie.Need-enum-told
 enum-told c = search needs
 
 value-at-requires : tie.Need-value-at-requires
-value-at-requires c κs =
-    let w = c .before .before in
-    let a = w .before .before .args in
-    let p : wrongFrom Digits (a .s .now) (a .i) (a .n) (a .check) ≡ Pass = sym (w .wrong-from .ensures) ∙ c .enum-told .given .1 in
-    (all-inside Digits (a .s .now) (a .i) (a .n) (a .check) (omega arith) p, digits-most (a .s .now) (a .i) (a .n) (a .check) 4 (omega arith) p)
+value-at-requires c κs = digits-there _ _ _ _ (omega arith) (omega arith) (c .before .before .wrong-from .ensures) (c .enum-told .given .1)
 
 add-in-range : tie.Need-add-in-range
 add-in-range c = search needs

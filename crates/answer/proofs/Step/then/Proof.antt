@@ -1,4 +1,4 @@
--- `answer::Step::then` meets its contract: a passing step hands on the next one's word, a stopping one keeps its own.
+-- `answer::Step::then` meets its contract: where the step passes the chain says what the next step says, and where it stops the chain stops with it.
 use borrow.Author.Needs.{needs}
 use Rattle.answer.specs.Steps.{_andThen_}
 use Rattle.answer.proofs.Step.then.Statement.{statement}

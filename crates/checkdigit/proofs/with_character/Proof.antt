@@ -1,10 +1,10 @@
--- `checkdigit::step` meets its contract: the number is moved to make room for the character's digits, and the character's value is added.
+-- `checkdigit::with_character` meets its contract: the number is moved to make room for the character's digits, and the character's value is added.
 use native.Mathlib.Omega.{arith}
 use borrow.Author.Needs.{needs}
 use Rattle.checkdigit.proofs.Digits.{after-one}
 use Rattle.checkdigit.proofs.Letters.{after-most}
-use Rattle.checkdigit.proofs.step.Statement.{statement}
-use Rattle.checkdigit.proofs.step.Tie as tie
+use Rattle.checkdigit.proofs.with_character.Statement.{statement}
+use Rattle.checkdigit.proofs.with_character.Tie as tie
 
 scale-requires : tie.Need-scale-requires
 scale-requires c κs = search needs
@@ -27,5 +27,5 @@ returns c =
     let a = c .before .before .args in
     rw (c .before .scale .ensures, c .value .ensures) (after-one (a .n) (a .b))
 
-pub step-spec : {M : Type 1} → statement M
-step-spec = tie.close (tie.spec scale-requires mul-result value-requires add-result returns)
+pub with-character-spec : {M : Type 1} → statement M
+with-character-spec = tie.close (tie.spec scale-requires mul-result value-requires add-result returns)

@@ -1,10 +1,10 @@
--- `checkdigit::rest` meets its contract: for so small a number the product's quotient is the number's own.
+-- `checkdigit::small_remainder` meets its contract: for so small a number the product's quotient is the number's own.
 use Prim.Native.Nat.{ℕ, _*_, _/_, _<_}
 use mathlib.Core.Path.{_≡_}
 use native.Mathlib.Omega.{arith}
 use borrow.Author.Needs.{needs}
-use Rattle.checkdigit.proofs.rest.Statement.{statement}
-use Rattle.checkdigit.proofs.rest.Tie as tie
+use Rattle.checkdigit.proofs.small_remainder.Statement.{statement}
+use Rattle.checkdigit.proofs.small_remainder.Tie as tie
 
 quotient : (n : ℕ) → n < 10000 → n * 10811 / 1048576 ≡ n / 97
 quotient n h = omega arith
@@ -21,5 +21,5 @@ sub-result c = search needs
 returns : tie.Need-returns
 returns c = rw (quotient (c .args .n) (c .pre)) (omega arith)
 
-pub rest-spec : {M : Type 1} → statement M
-rest-spec = tie.close (tie.spec mul-result mul-result-2 sub-result returns)
+pub small-remainder-spec : {M : Type 1} → statement M
+small-remainder-spec = tie.close (tie.spec mul-result mul-result-2 sub-result returns)
