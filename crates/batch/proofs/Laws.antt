@@ -1,20 +1,27 @@
--- Laws of the walk that the proofs of the code cite: one turn of it, a part that goes to the end, and the loop's invariant.
-use Prim.Native.Nat.{ℕ, zero, suc, _+_, _-_, _≤_}
+-- Laws of the walk that the proofs of the code cite: one turn of it, the value of a record at a place, and the loop's invariant.
+use Prim.Native.Nat.{ℕ, zero, suc, _+_, _-_, _^_, _≤_, _<_}
 use mathlib.Core.Path.{_≡_, refl, sym, ap, _∙_}
-use mathlib.Core.List.{List, [], _++_, append-assoc, append-nil}
+use mathlib.Core.Bool.{true}
+use mathlib.Core.List.{List, _++_, append-assoc}
 use native.Mathlib.Omega.{arith}
 use native.Mathlib.Nat.{add-zero, zero-add, sub-zero, add-assoc, sub-add-eq, add-sub-cancel-left}
 use native.Mathlib.Numerals.{sub-one}
-use lib.ListN.{length, take, drop, take-append-drop, length-drop, length-append, drop-of-length-le}
-use lib.Seq.{take-all, drop-drop, take-at, drop-at, length-take-le}
-use Rattle.batch.specs.Head.{headOf}
-use Rattle.batch.specs.Verdict.{verdictSize, answerBytes, verdict}
-use Rattle.batch.specs.Records.{RecordAt, recordAt, verdictOf}
-use Rattle.batch.specs.Walk.{nextOf, actOut, stopped, ahead, walk}
+use lib.Dec.{leb}
+use lib.ListN.{length, take, drop, take-append-drop, length-drop, length-append}
+use lib.Seq.{drop-drop, take-at, drop-at, length-take-le}
+use borrow.Author.Tests.{lt-leb}
+use Rattle.record.specs.Head.{headOf}
+use Rattle.record.specs.Records.{recordAt}
+use Rattle.record.proofs.Heads.{Whole, whole}
+use Rattle.batch.specs.Verdict.{verdictSize, verdictOf}
+use Rattle.batch.specs.Walk.{nextOf, stopped, ahead, walk, callOf}
+use Rattle.batch.specs.Inner.{actOut}
 use Rattle.batch.specs.declared.Stop.{Stop}
+use Rattle.batch.specs.declared.Stop.the-variants.{Offset}
 use Rattle.batch.specs.declared.Act.{Act}
 use Rattle.batch.specs.declared.Act.the-variants.{Stops, Judges}
-use Rattle.batch.proofs.Heads.{Whole, whole, Judged, judged}
+use Rattle.batch.proofs.Acts.{Judged, judged}
+use Rattle.batch.proofs.Verdicts.{length-verdictOf}
 
 pub walk-stop : (b : ℕ) (batch : List ℕ) (offset : ℕ) (out : List ℕ) (s : Stop)
     → nextOf (headOf batch) (length out) b ≡ Stops s → walk b batch offset out ≡ stopped s out
@@ -30,24 +37,18 @@ unfolding walk
 walk-judged zero batch offset out k n e = absurd (omega (arith, judged (headOf batch) (length out) 0 k n e .left))
 walk-judged (suc b) batch offset out k n e = simp (e, sub-one)
 
--- a part that goes to the end, as `&l[w..]` gives it
-pub to-end : (w : ℕ) (l : List ℕ) → take (length l - w) (drop w l) ≡ drop w l
-to-end w l = take-all (length l - w) (drop w l) (omega (arith, length-drop w l))
+-- a call where offset and length come to 2^64, and where they do not
+pub far : (batch : List ℕ) (offset : ℕ) (out : List ℕ) (b : ℕ) → leb (2 ^ 64) (offset + length batch) ≡ true → callOf batch offset out b ≡ stopped Offset out
+unfolding callOf
+far batch offset out b h = simp h
 
-pub past-end : (w : ℕ) (l : List ℕ) → drop (length l - w) (drop w l) ≡ []
-past-end w l = drop-of-length-le (drop w l) {i = length l - w} (omega (arith, length-drop w l))
-
--- the whole once the part is back
-pub put-back : (w : ℕ) (l last x : List ℕ) → last ≡ x → take w l ++ (last ++ drop (length l - w) (drop w l)) ≡ take w l ++ x
-put-back w l last x e = simp (past-end, append-nil) (ap (λ (k : List ℕ). take w l ++ k) e)
+pub near : (batch : List ℕ) (offset : ℕ) (out : List ℕ) (b : ℕ) → offset + length batch < 2 ^ 64 → callOf batch offset out b ≡ walk b batch offset out
+unfolding callOf
+near batch offset out b h = simp (lt-leb (2 ^ 64) (offset + length batch) h)
 
 -- the value of the record at a place of the batch is that of the record at the start of what is left there
 pub value-at : (batch : List ℕ) (at n : ℕ) → take (at + 4 + n - (at + 4)) (drop (at + 4) batch) ≡ take n (drop 4 (drop at batch))
 value-at batch at n = rw (add-sub-cancel-left, drop-drop)
-
-pub length-verdictOf : (e : RecordAt) → length (verdictOf e) ≡ verdictSize
-unfolding verdictOf verdict answerBytes
-length-verdictOf e = refl
 
 -- the loop's invariant: what the whole walk gives is what is done so far, and then the walk on what is left
 pub record Going (batch : List ℕ) (offset : ℕ) (out₀ : List ℕ) (budget : ℕ) (out : List ℕ) (done at w : ℕ) : Type 0 where

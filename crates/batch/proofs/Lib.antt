@@ -1,10 +1,4 @@
--- The laws and theorems of `batch`.
-pub mod Numbers
-pub mod Heads
+-- The laws of `batch`, by which the crates above know its definitions. Its promises stand in `batch_promises`.
+pub mod Acts
+pub mod Verdicts
 pub mod Laws
-pub mod Records
-pub mod Count
-pub mod GoingOn
-pub mod Whole
-pub mod Promises
-pub mod Worked

@@ -1,8 +1,4 @@
--- The definitions that the contracts and promises of `batch` cite.
-pub mod Number
-pub mod Head
+-- The definitions that the contracts of `batch` cite. Those that only its promises cite stand in `batch_promises`.
 pub mod Verdict
-pub mod Records
 pub mod Walk
-pub mod Count
-pub mod GoingOn
+pub mod Inner

@@ -4,11 +4,11 @@ use mathlib.Core.List.{List, _++_}
 use lib.Dec.{ltb, leb, eqb}
 use lib.ListN.{length, drop}
 use mathlib.Core.Bool.{cond}
-use Rattle.batch.specs.Head.{headOf}
-use Rattle.batch.specs.Verdict.{verdictSize}
-use Rattle.batch.specs.Records.{recordAt, verdictOf}
-use Rattle.batch.specs.declared.Head.{Head}
-use Rattle.batch.specs.declared.Head.the-variants.{End, Short, TooLong, CutShort, Record}
+use Rattle.record.specs.Head.{headOf}
+use Rattle.record.specs.Records.{recordAt}
+use Rattle.record.specs.declared.Head.{Head}
+use Rattle.record.specs.declared.Head.the-variants.{End, Short, TooLong, CutShort, Record}
+use Rattle.batch.specs.Verdict.{verdictSize, verdictOf}
 use Rattle.batch.specs.declared.Stop.{Stop}
 use Rattle.batch.specs.declared.Stop.the-variants.{Finished, Budget, Room, Cut, Offset, Long}
 use Rattle.batch.specs.declared.Act.{Act}
@@ -23,6 +23,14 @@ stopNumber Room = 32  -- no room for a verdict
 stopNumber Cut = 33  -- fewer than 4 bytes, or the value cut short
 stopNumber Offset = 34  -- offset plus batch length is 2^64 or more
 stopNumber Long = 35  -- length above the head limit
+
+-- the stop where the whole records end, by what stands there (which is no whole record)
+abbrev pub endOf : Head → Stop
+endOf End = Finished
+endOf Short = Cut
+endOf TooLong = Long
+endOf CutShort = Cut
+endOf (Record k n) = Room
 
 -- with the budget spent 31 comes first
 abbrev pub unlessSpent : ℕ → Act → Act
@@ -66,11 +74,6 @@ walk (suc k) batch offset out = after (nextOf (headOf batch) (length out) (suc k
 -- "If offset plus batch length is 2^64 or more: 34, nothing written, all counts 0."
 unfoldable pub callOf : List ℕ → ℕ → List ℕ → ℕ → Outcome
 callOf batch offset out budget = cond (leb (2 ^ 64) (offset + length batch)) (stopped Offset out) (walk budget batch offset out)
-
--- what the output holds after one turn
-abbrev pub actOut : Act → List ℕ → ℕ → List ℕ → List ℕ
-actOut (Stops s) batch offset out = out
-actOut (Judges k n) batch offset out = verdictOf (recordAt batch offset k n) ++ drop verdictSize out
 
 -- an answer of the code, with the output
 abbrev pub outcomeOf : Ran → List ℕ → Outcome

@@ -1,29 +1,18 @@
-// A batch of records: a record's head, a verdict's bytes, and the call that judges record after record.
+// A batch of records is judged: the bytes of a verdict, written and read back, and the call that judges record after record. What a record is
+// stands in `record`, and what a field's answer is in `field`.
 ghost use mathlib.Core.Path.{_≡_};
 ghost use mathlib.Core.List.{_++_};
 ghost use Prim.Native.Nat.{_+_, _-_, _≤_};
 ghost use lib.ListN.{length, take, drop};
-ghost use Rattle.batch.specs.Number.{toBytes, fromBytes, littleAt};
-ghost use Rattle.batch.specs.Head.{headOf};
-ghost use Rattle.batch.specs.Verdict.{verdictSize, answerBytes, verdict};
-ghost use Rattle.batch.specs.Walk.{stopNumber, unlessSpent, nextOf, actOut, outcomeOf, callOf};
+ghost use Rattle.record.specs.Head.{headOf};
+ghost use Rattle.batch.specs.Verdict.{verdictSize, answerBytes, verdict, readVerdict};
+ghost use Rattle.batch.specs.Walk.{stopNumber, unlessSpent, nextOf, outcomeOf, callOf};
+ghost use Rattle.batch.specs.Inner.{actOut};
 use answer::Answer;
-
-// The longest value that a head may announce.
-pub const HEAD_LIMIT: usize = 4096;
+use record::Head;
 
 // How many bytes each record yields.
 pub const VERDICT_SIZE: usize = 24;
-
-// What stands at the start of the rest of a batch: nothing, fewer bytes than a head has, a length above the limit, a value cut
-// short, or a whole record.
-pub enum Head {
-    End,
-    Short,
-    TooLong,
-    CutShort,
-    Record { kind: u16, length: usize },
-}
 
 // Why a call stopped.
 pub enum Stop {
@@ -57,6 +46,7 @@ pub enum Act {
     Judges { kind: u16, length: usize },
 }
 
+// What a call answers: why it stopped, records judged, bytes of the batch read, bytes of the output written.
 pub struct Ran {
     pub stop: Stop,
     pub judged: u64,
@@ -64,64 +54,13 @@ pub struct Ran {
     pub written: usize,
 }
 
-// Two bytes at a place.
-fn pair_at(s: &[u8], at: usize) -> u16
-    requires { ⌜ at + 2 ≤ length (now s) ⌝ }
-    ensures { λ r. ⌜ r ≡ littleAt (now (s .entry)) at 2 ⌝ }
-{
-    (s[at] as u16) + 256 * (s[at + 1] as u16)
-}
-
-// The number that bytes write, the lowest first; of more than eight bytes the first eight.
-pub fn read_number(b: &[u8]) -> u64
-    ensures { λ r. ⌜ r ≡ fromBytes (take 8 (now (b .entry))) ⌝ }
-{
-    let mut x: u64 = 0;
-    let mut i = b.len();
-    if 8 < i {
-        i = 8;
-    }
-    while 0 < i {
-        i -= 1;
-        x = (b[i] as u64) + 256 * x;
-    }
-    x
-}
-
-// As many of a number's bytes as there is room for, the lowest first.
-pub fn write_number(b: &mut [u8], x: u64)
-    ensures { λ _. ⌜ now (b .exit) ≡ toBytes (length (now (b .entry))) x ⌝ }
-{
-    let mut rest = x;
-    let mut i = 0;
-    while i < b.len() {
-        b[i] = (rest % 256) as u8;
-        rest = rest / 256;
-        i += 1;
-    }
-}
-
-pub fn read_head(rest: &[u8]) -> Head
-    ensures { λ r. ⌜ r ≡ headOf (now (rest .entry)) ⌝ }
-{
-    let left = rest.len();
-    if left == 0 {
-        return Head::End;
-    }
-    if left < 4 {
-        return Head::Short;
-    }
-    let length = pair_at(rest, 0) as usize;
-    if HEAD_LIMIT < length {
-        return Head::TooLong;
-    }
-    if left < 4 + length {
-        return Head::CutShort;
-    }
-    Head::Record {
-        kind: pair_at(rest, 2),
-        length,
-    }
+// What a verdict says of its record: the stream offset, the kind, and the three numbers of the answer.
+pub struct Verdict {
+    pub offset: u64,
+    pub kind: u16,
+    pub answer: u8,
+    pub place: u16,
+    pub number: u64,
 }
 
 // With the budget spent 31 comes before any stop but 0.
@@ -134,6 +73,7 @@ fn unless_spent(budget: u64, why: Stop) -> Act
     Act::Stops(why)
 }
 
+// What a call does before a record, by the head that stands there, the room left in the output, and the budget left.
 pub fn next(head: Head, room: usize, budget: u64) -> Act
     ensures { λ r. ⌜ r ≡ nextOf head room budget ⌝ }
 {
@@ -154,35 +94,12 @@ pub fn next(head: Head, room: usize, budget: u64) -> Act
     }
 }
 
-// The eight bytes of a number.
-fn eight(x: u64) -> [u8; 8]
-    ensures { λ r. ⌜ r ≡ toBytes 8 x ⌝ }
-{
-    let x1 = x / 256;
-    let x2 = x1 / 256;
-    let x3 = x2 / 256;
-    let x4 = x3 / 256;
-    let x5 = x4 / 256;
-    let x6 = x5 / 256;
-    let x7 = x6 / 256;
-    [
-        (x % 256) as u8,
-        (x1 % 256) as u8,
-        (x2 % 256) as u8,
-        (x3 % 256) as u8,
-        (x4 % 256) as u8,
-        (x5 % 256) as u8,
-        (x6 % 256) as u8,
-        (x7 % 256) as u8,
-    ]
-}
-
 // An answer's part of a verdict: the answer, zero, place, number.
 pub fn answer_bytes(a: Answer) -> [u8; 12]
     ensures { λ r. ⌜ r ≡ answerBytes a ⌝ }
 {
     let p = a.place();
-    let n = eight(a.value());
+    let n = record::eight(a.value());
     [
         a.number(),
         0,
@@ -203,7 +120,7 @@ pub fn answer_bytes(a: Answer) -> [u8; 12]
 fn verdict_bytes(kind: u16, offset: u64, a: Answer) -> [u8; VERDICT_SIZE]
     ensures { λ r. ⌜ r ≡ verdict kind offset a ⌝ }
 {
-    let o = eight(offset);
+    let o = record::eight(offset);
     let t = answer_bytes(a);
     [
         (VERDICT_SIZE - 4) as u8,
@@ -233,7 +150,30 @@ fn verdict_bytes(kind: u16, offset: u64, a: Answer) -> [u8; VERDICT_SIZE]
     ]
 }
 
-// Writes them at the start of `out`.
+// What the verdict at the start of `v` says, read from the places where it was written; fewer bytes than a verdict has say nothing, 0
+// throughout. Nobody else knows these places.
+pub fn read_verdict(v: &[u8]) -> Verdict
+    ensures { λ r. ⌜ r ≡ readVerdict (now (v .entry)) ⌝ }
+{
+    if v.len() < VERDICT_SIZE {
+        return Verdict {
+            offset: 0,
+            kind: 0,
+            answer: 0,
+            place: 0,
+            number: 0,
+        };
+    }
+    Verdict {
+        offset: record::read_number(&v[4..12]),
+        kind: record::read_number(&v[2..4]) as u16,
+        answer: v[12],
+        place: record::read_number(&v[14..16]) as u16,
+        number: record::read_number(&v[16..24]),
+    }
+}
+
+// Writes a verdict's bytes at the start of `out`.
 fn write_verdict(out: &mut [u8], kind: u16, offset: u64, a: Answer)
     requires { ⌜ verdictSize ≤ length (now out) ⌝ }
     ensures { λ _. ⌜ now (out .exit) ≡ verdict kind offset a ++ drop verdictSize (now (out .entry)) ⌝ }
@@ -249,7 +189,7 @@ fn judge_next(batch: &[u8], at: usize, offset: u64, out: &mut [u8], w: usize, bu
     ensures { λ r. ⌜ r ≡ nextOf (headOf (drop at (now (batch .entry)))) (length (now (out .entry)) - w) budget ⌝ }
     ensures { λ r. ⌜ now (out .exit) ≡ take w (now (out .entry)) ++ actOut r (drop at (now (batch .entry))) offset (drop w (now (out .entry))) ⌝ }
 {
-    match next(read_head(&batch[at..]), out.len() - w, budget) {
+    match next(record::read_head(&batch[at..]), out.len() - w, budget) {
         Act::Stops(why) => Act::Stops(why),
         Act::Judges { kind, length } => {
             let from = at + 4;
@@ -260,6 +200,8 @@ fn judge_next(batch: &[u8], at: usize, offset: u64, out: &mut [u8], w: usize, bu
     }
 }
 
+// Judges record after record from the start of `batch`, whose first byte has this stream offset, and writes a verdict for each into `out`, for
+// as long as budget and room last.
 pub fn run(batch: &[u8], offset: u64, out: &mut [u8], budget: u64) -> Ran
     ensures { λ r. ⌜ outcomeOf r (now (out .exit)) ≡ callOf (now (batch .entry)) offset (now (out .entry)) budget ⌝ }
     ensures { λ r. ⌜ (r .read ≤ length (now (batch .entry))) × (r .written ≤ length (now (out .exit))) ⌝ }

@@ -9,16 +9,17 @@ use native.Mathlib.Omega.{arith}
 use lib.ListN.{length, getD, set, take, drop, length-append, length-drop, length-set}
 use lib.Seq.{length-take-le, getD-drop, take-suc, take-suc-set, drop-set-lt, drop-drop, take-nil, drop-nil, take-at, take-add}
 use borrow.Rule.Slice.PartMut.{midOf, putMid, same-len-mid, take-put}
-use Rattle.batch.specs.Head.{headLimit}
+use Rattle.record.specs.Head.{headLimit}
 use Rattle.batch.specs.Walk.{Outcome, callOf}
-use Rattle.batch.specs.GoingOn.{pauses, Call}
+use Rattle.batch_promises.specs.GoingOn.{pauses, Call}
 use Rattle.batch.specs.declared.Stop.{Stop}
 use Rattle.batch.specs.declared.Stop.the-variants.{Finished, Budget, Room, Cut, Offset, Long}
 use Rattle.report.specs.Text.{atStart}
 use Rattle.turn.specs.declared.Turned.{Turned}
 use Rattle.turn.specs.Turn.{roomOf, callLines, Turning, turnOf, turningOf}
-use Rattle.turn.specs.Stream.{Event, more, call, Stream, started, called, next, feed, input}
-use Rattle.turn.proofs.Laws.{Sized, sized, goes, room-least, room-in}
+use Rattle.turn_promises.specs.Stream.{Event, more, call, Stream, started, called, next, feed, input}
+use Rattle.batch_promises.proofs.Sizes.{Sized, sized, goes}
+use Rattle.turn.proofs.Laws.{room-least, room-in}
 use Rattle.judge.specs.declared.State.{State}
 use Rattle.judge.specs.declared.Next.{Next}
 use Rattle.judge.specs.declared.Way.{Way}

@@ -7,11 +7,11 @@ use mathlib.Core.List.{List, _++_}
 use native.Mathlib.Omega.{arith}
 use lib.ListN.{length, take}
 use Rattle.batch.specs.declared.Stop.the-variants.{Long}
-use Rattle.batch.specs.GoingOn.{Sum, allOf, pauses}
+use Rattle.batch_promises.specs.GoingOn.{Sum, allOf, pauses}
 use Rattle.report.specs.Text.{heading, verdictLines}
-use Rattle.turn.specs.Stream.{Stream, started, called, feed, input}
-use Rattle.turn.specs.Output.{lastOf, outputOf}
-use Rattle.turn.proofs.Promises.{all-done, same-output, at-long}
+use Rattle.turn_promises.specs.Stream.{Stream, started, called, feed, input}
+use Rattle.turn_promises.specs.Output.{lastOf, outputOf}
+use Rattle.turn_promises.proofs.Promises.{all-done, same-output, at-long}
 use Rattle.judge.specs.declared.State.{State}
 use Rattle.judge.specs.declared.Next.{Next}
 use Rattle.judge.specs.declared.Ahead.the-variants.{LastLine}

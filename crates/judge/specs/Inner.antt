@@ -4,13 +4,13 @@ use mathlib.Core.Path.{_≡_}
 use mathlib.Core.Bool.{true}
 use mathlib.Core.List.{List, _++_}
 use lib.ListN.{length, take}
-use Rattle.batch.specs.Head.{headLimit}
+use Rattle.record.specs.Head.{headLimit}
 use Rattle.batch.specs.Verdict.{verdictSize}
-use Rattle.batch.specs.GoingOn.{pauses, Call}
+use Rattle.batch_promises.specs.GoingOn.{pauses, Call}
 use Rattle.batch.specs.declared.Stop.the-variants.{Finished, Cut}
 use Rattle.report.specs.Text.{lineMost}
 use Rattle.turn.specs.Turn.{roomOf}
-use Rattle.turn.specs.Stream.{Stream, called}
+use Rattle.turn_promises.specs.Stream.{Stream, called}
 use Rattle.judge.specs.declared.State.{State}
 use Rattle.judge.specs.declared.Next.{Next}
 use Rattle.judge.specs.declared.Ahead.the-variants.{Turn}

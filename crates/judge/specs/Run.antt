@@ -7,11 +7,11 @@ use mathlib.Core.Bool.{false}
 use mathlib.Core.List.{List, [], _++_}
 use lib.ListN.{length, take, drop}
 use Rattle.batch.specs.Walk.{stopNumber}
-use Rattle.batch.specs.GoingOn.{pauses, Call}
+use Rattle.batch_promises.specs.GoingOn.{pauses, Call}
 use Rattle.batch.specs.declared.Stop.{Stop}
 use Rattle.batch.specs.declared.Stop.the-variants.{Finished, Budget, Room, Cut, Offset, Long}
 use Rattle.report.specs.Text.{lastLine}
-use Rattle.turn.specs.Stream.{Event, Stream, started, called, feed, input}
+use Rattle.turn_promises.specs.Stream.{Event, Stream, started, called, feed, input}
 use Rattle.judge.specs.declared.State.{State}
 use Rattle.judge.specs.declared.Next.{Next}
 use Rattle.judge.specs.declared.Way.{Way}

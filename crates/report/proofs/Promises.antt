@@ -14,8 +14,8 @@ use Rattle.text.proofs.Classes.{is-digit}
 use Rattle.text.proofs.Decimals.{number-append, fits}
 use Rattle.text.proofs.Near.{Small}
 use Rattle.text.proofs.Ranges.{both-parts, both-of}
-use Rattle.batch.specs.Verdict.{verdict}
-use Rattle.batch.proofs.Whole.{Reads, verdict-reads}
+use Rattle.batch.specs.Verdict.{verdict, readVerdict, saying}
+use Rattle.batch.proofs.Verdicts.{read-verdict}
 use Rattle.report.specs.declared.Offset.the-variants.{Is}
 use Rattle.report.specs.Digits.{decimalDigits}
 use Rattle.report.specs.Offset.{digitsOnly, offsetOf}
@@ -64,11 +64,12 @@ argument x h =
     ∙ rw (reads-back x, ← fits x h)
 
 -- the line of a verdict that says these numbers
-pub line-reads : (v : List ℕ) (kind offset : ℕ) (a : Answer) → Reads v kind offset a
+pub line-reads : (v : List ℕ) (kind offset : ℕ) (a : Answer) → readVerdict v ≡ saying kind offset a
     → verdictLine v ≡ numbersLine (offset ∷ kind ∷ answer.numberOf a ∷ answer.placeOf a ∷ answer.valueOf a ∷ [])
 unfolding verdictLine
-line-reads v kind offset a r = rw (r .offset, r .kind, r .number, r .place, r .value)
+line-reads v kind offset a e = rw e
 
 pub line-says : (kind offset : ℕ) (a : Answer) (rest : List ℕ) → kind < 2 ^ 16 → offset < 2 ^ 64 → Small a
     → verdictLine (verdict kind offset a ++ rest) ≡ numbersLine (offset ∷ kind ∷ answer.numberOf a ∷ answer.placeOf a ∷ answer.valueOf a ∷ [])
-line-says kind offset a rest f g h = line-reads (verdict kind offset a ++ rest) kind offset a (verdict-reads kind offset a rest f g h)
+line-says kind offset a rest f g h =
+    line-reads (verdict kind offset a ++ rest) kind offset a (read-verdict kind offset a rest f g (h .place) (h .value))

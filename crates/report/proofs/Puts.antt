@@ -6,11 +6,13 @@ use native.Mathlib.Nat.{add-assoc, zero-add}
 use native.Mathlib.Numerals.{add-one}
 use native.Mathlib.Omega.{arith}
 use borrow.Author.Tests.{lt-ltb, le-ltb}
-use lib.ListN.{length, getD, take, drop, set, length-append, length-drop, drop-of-length-le}
-use lib.Seq.{take-all, take-length, take-at, set-at, sets-eq, drop-cons, drop-drop, drop-append-add, length-take-le}
+use lib.ListN.{length, getD, take, drop, set, length-append, length-drop}
+use lib.Seq.{take-length, take-at, set-at, sets-eq, drop-cons, drop-drop, drop-append-add, length-take-le}
 use Rattle.text.specs.Quote.{bytesOf}
+use Rattle.record.proofs.Parts.{to-end, past-end}
 use Rattle.report.specs.Digits.{decimalDigits}
-use Rattle.report.specs.Text.{field, numbersLine, named, lastLine, put, atStart, Put, lastMost, placed, ended}
+use Rattle.report.specs.Text.{field, numbersLine, named, lastLine, atStart, lastMost, placed, ended}
+use Rattle.report.specs.Inner.{put, Put}
 use Rattle.report.proofs.Digits.{small, most}
 
 pub length-put : (at : ℕ) (t out : List ℕ) → at + length t ≤ length out → length (put at t out) ≡ length out
@@ -122,13 +124,6 @@ pub row-then : {at x y a b : ℕ} {xs out out₁ out₂ : List ℕ} → Room at 
     → Put a (numbersLine (y ∷ xs)) out₁ out₂ b → Put at (numbersLine (x ∷ y ∷ xs)) out out₂ b
 unfolding numbersLine
 row-then h p q = then _ _ _ _ _ _ _ _ (row-first h) p q
-
--- a part that goes to the end, as `&l[w..]` gives it, and what is past it
-pub to-end : (w : ℕ) (l : List ℕ) → take (length l - w) (drop w l) ≡ drop w l
-to-end w l = take-all (length l - w) (drop w l) (omega (arith, length-drop w l))
-
-past-end : (w : ℕ) (l : List ℕ) → drop (length l - w) (drop w l) ≡ []
-past-end w l = drop-of-length-le (drop w l) {i = length l - w} (omega (arith, length-drop w l))
 
 -- a word that `bytes::copy` wrote
 pub put-word : (at : ℕ) (word out last : List ℕ) → last ≡ take (length word) word ++ drop (length word) (take (length out - at) (drop at out))

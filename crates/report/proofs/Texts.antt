@@ -10,18 +10,21 @@ use borrow.Author.Tests.{lt-ltb, le-ltb}
 use lib.Dec.{ltb}
 use lib.ListN.{length, take, drop, length-append, length-drop}
 use lib.Seq.{take-at, drop-append-le, drop-drop}
-use Rattle.batch.specs.Number.{littleAt, Bytes}
-use Rattle.batch.specs.Verdict.{verdictSize}
-use Rattle.batch.proofs.Numbers.{number-append, bytes-drop, number-most}
+use Rattle.record.specs.Number.{Bytes}
+use Rattle.record.proofs.Parts.{to-end}
+use Rattle.record.proofs.Numbers.{bytes-drop}
+use Rattle.batch.specs.Verdict.{verdictSize, readVerdict}
+use Rattle.batch.specs.declared.Verdict.{Verdict}
+use Rattle.batch.proofs.Verdicts.{read-front, read-most}
 use Rattle.report.specs.declared.Rendered.{Rendered}
 use Rattle.report.specs.Text.{
+  numbers,
   field,
   numbersLine,
   verdictLine,
   verdictLines,
   lastLine,
   atStart,
-  Put,
   lineMost,
   lastMost,
   fitting,
@@ -33,8 +36,14 @@ use Rattle.report.specs.Text.{
   placed,
   ended,
 }
+use Rattle.report.specs.Inner.{Put}
 use Rattle.report.proofs.Digits.{most}
-use Rattle.report.proofs.Puts.{length-field, to-end, then}
+use Rattle.report.proofs.Puts.{length-field, then}
+
+-- the row of what a verdict says is its line
+pub line-is : (d : Verdict) (v : List ℕ) → d ≡ readVerdict v → numbersLine (numbers d) ≡ verdictLine v
+unfolding verdictLine
+line-is d v e = ap (λ (x : Verdict). numbersLine (numbers x)) e
 
 pub text-snoc : (k : ℕ) (v : List ℕ) → verdictLines (suc k) v ≡ verdictLines k v ++ verdictLine (drop (verdictSize * k) v)
 unfolding verdictLines
@@ -46,14 +55,7 @@ text-snoc (suc k) v =
 -- a line needs its verdict only
 pub line-front : (v w : List ℕ) → verdictSize ≤ length v → verdictLine (v ++ w) ≡ verdictLine v
 unfolding verdictLine
-line-front v w h =
-    rw (
-      number-append v w 4 8 (omega arith),
-      number-append v w 2 2 (omega arith),
-      number-append v w 12 1 (omega arith),
-      number-append v w 14 2 (omega arith),
-      number-append v w 16 8 (omega arith),
-    )
+line-front v w h = rw (read-front v w h)
 
 no-bytes : (v : List ℕ) → length v ≡ 0 → v ≡ []
 no-bytes [] h = refl
@@ -82,24 +84,21 @@ length-row a b c d e = simp length-append
 pub line-most : (v : List ℕ) → Bytes v → length (verdictLine v) ≤ lineMost
 unfolding verdictLine
 line-most v b =
-    let o = littleAt v 4 8 in
-    let k = littleAt v 2 2 in
-    let a = littleAt v 12 1 in
-    let p = littleAt v 14 2 in
-    let n = littleAt v 16 8 in
+    let d = readVerdict v in
+    let m = read-most v b in
     omega (
       arith,
-      length-row o k a p n,
-      length-field o 32,
-      length-field k 32,
-      length-field a 32,
-      length-field p 32,
-      length-field n 10,
-      most 19 o (omega (arith, number-most v b 4 8)),
-      most 4 k (omega (arith, number-most v b 2 2)),
-      most 2 a (omega (arith, number-most v b 12 1)),
-      most 4 p (omega (arith, number-most v b 14 2)),
-      most 19 n (omega (arith, number-most v b 16 8)),
+      length-row (d .offset) (d .kind) (d .answer) (d .place) (d .number),
+      length-field (d .offset) 32,
+      length-field (d .kind) 32,
+      length-field (d .answer) 32,
+      length-field (d .place) 32,
+      length-field (d .number) 10,
+      most 19 (d .offset) (omega (arith, m .offset)),
+      most 4 (d .kind) (omega (arith, m .kind)),
+      most 2 (d .answer) (omega (arith, m .answer)),
+      most 4 (d .place) (omega (arith, m .place)),
+      most 19 (d .number) (omega (arith, m .number)),
     )
 
 -- how many lines have room
@@ -220,9 +219,8 @@ module _ (v out₀ out : List ℕ) (k i at : ℕ) (g : Lining v out₀ out k i a
     short : length (verdictLine (take (length v - i) (drop i v))) ≤ lineMost
     short = rw here (line-most (drop (verdictSize * k) v) (bytes-drop v (verdictSize * k) bytes))
 
-    pub line-requires : (verdictSize ≤ length (take (length v - i) (drop i v)))
-        × (at + length (verdictLine (take (length v - i) (drop i v))) ≤ length out)
-    line-requires = (rw to-end (omega (arith, length-drop i v)), omega (arith, short))
+    pub line-requires : at + length (verdictLine (take (length v - i) (drop i v))) ≤ length out
+    line-requires = omega (arith, short)
 
     pub line-again : (last : List ℕ) (r : ℕ) → length last ≡ length out → Put at (verdictLine (take (length v - i) (drop i v))) out last r
         → Lining v out₀ last (k + 1) (i + verdictSize) r
@@ -234,7 +232,7 @@ module _ (v out₀ out : List ℕ) (k i at : ℕ) (g : Lining v out₀ out k i a
         record {
           place = omega (arith, g .place);
           within = omega arith;
-          room = omega (arith, p .end, line-requires .1, g .same);
+          room = omega (arith, p .end, line-requires, g .same);
           same = l ∙ g .same;
           wrote =
               rw (add-one, text-snoc)

@@ -2,9 +2,11 @@
 use Prim.Native.Nat.{ℕ, zero, suc, _-_, _^_}
 use mathlib.Core.Path.{_≡_, refl}
 use mathlib.Core.List.{List, [], _∷_, _++_, map}
+use Rattle.answer.specs.declared.Answer.the-variants.{Accepted}
 use Rattle.text.specs.Class.{classOf}
 use Rattle.text.specs.Decimal.{decimal, numberWritten, fitted}
 use Rattle.text.specs.Quote.{bytesOf}
+use Rattle.batch.specs.Verdict.{answerBytes, verdict, readVerdict}
 use Rattle.report.specs.declared.Offset.{Offset}
 use Rattle.report.specs.declared.Offset.the-variants.{Is, Not}
 use Rattle.report.specs.Digits.{decimalDigitsIn, decimalDigits}
@@ -27,9 +29,7 @@ use Rattle.report.specs.Offset.{offsetOf}
 
 -- the verdicts of SCOPE's two records
 abbrev verdicts : List ℕ
-verdicts =
-    0x14 ∷ 0 ∷ 7 ∷ 0 ∷ 0 ∷ 0 ∷ 0 ∷ 0 ∷ 0 ∷ 0 ∷ 0 ∷ 0 ∷ 0 ∷ 0 ∷ 0 ∷ 0 ∷ 0 ∷ 0 ∷ 0 ∷ 0 ∷ 0 ∷ 0 ∷ 0 ∷ 0
-    ∷ 0x14 ∷ 0 ∷ 9 ∷ 0 ∷ 6 ∷ 0 ∷ 0 ∷ 0 ∷ 0 ∷ 0 ∷ 0 ∷ 0 ∷ 0 ∷ 0 ∷ 0 ∷ 0 ∷ 0xD2 ∷ 0x86 ∷ 1 ∷ 0 ∷ 0 ∷ 0 ∷ 0 ∷ 0 ∷ []
+verdicts = verdict 7 0 (Accepted 0) ++ verdict 9 6 (Accepted 100050)
 
 -- its whole text
 abbrev whole : List ℕ
@@ -63,5 +63,5 @@ pub worked : (whole ≡ bytesOf "offset kind answer place number\n0 7 0 0 0\n6 9
     ∷ [])
     × (lasts ≡ placed 0 (dots 79) ∷ placed 24 (bytesOf "stop 0 judged 2 read 17\n" ++ dots 56) ∷ [])
     × (offsets ≡ Is 0 ∷ Is 42 ∷ Is (2 ^ 64 - 1) ∷ Not ∷ Not ∷ Not ∷ Not ∷ Not ∷ Not ∷ Not ∷ [])
-unfolding decimalDigitsIn decimalDigits field numbersLine verdictLine verdictLines heading named lastLine fitting rendered ended offsetOf classOf fitted numberWritten decimal
+unfolding answerBytes verdict readVerdict decimalDigitsIn decimalDigits field numbersLine verdictLine verdictLines heading named lastLine fitting rendered ended offsetOf classOf fitted numberWritten decimal
 worked = (refl, refl, refl, refl, refl)

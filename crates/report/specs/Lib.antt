@@ -2,3 +2,4 @@
 pub mod Digits
 pub mod Text
 pub mod Offset
+pub mod Inner

@@ -1,25 +1,18 @@
 -- The program's text, after SCOPE, "The batch": the heading, a line for each verdict, and the last line.
 use Prim.Native.Nat.{ℕ, zero, suc, _+_, _-_, _/_}
-use mathlib.Core.Path.{_≡_}
 use mathlib.Core.List.{List, [], _∷_, _++_}
 use lib.Dec.{ltb}
-use lib.ListN.{length, take, drop}
+use lib.ListN.{length, drop}
 use mathlib.Core.Bool.{cond}
 use Rattle.text.specs.Quote.{bytesOf}
-use Rattle.batch.specs.Number.{littleAt}
-use Rattle.batch.specs.Verdict.{verdictSize}
+use Rattle.batch.specs.Verdict.{verdictSize, readVerdict}
+use Rattle.batch.specs.declared.Verdict.{Verdict}
 use Rattle.report.specs.declared.Rendered.{Rendered}
 use Rattle.report.specs.Digits.{decimalDigits}
 
--- what the verdict at the start of v says
-abbrev pub numbers : List ℕ → List ℕ
-numbers v =
-    littleAt v 4 8 ∷  -- offset
-    littleAt v 2 2 ∷  -- kind
-    littleAt v 12 1 ∷  -- answer
-    littleAt v 14 2 ∷  -- place
-    littleAt v 16 8 ∷  -- number
-    []
+-- the columns of a verdict's line, in the heading's order
+abbrev pub numbers : Verdict → List ℕ
+numbers v = v .offset ∷ v .kind ∷ v .answer ∷ v .place ∷ v .number ∷ []
 
 -- a number and the byte after it
 unfoldable pub field : ℕ → ℕ → List ℕ
@@ -33,7 +26,7 @@ numbersLine (x ∷ y ∷ xs) = field x 32 ++ numbersLine (y ∷ xs)
 
 -- the line of the verdict at the start of v
 unfoldable pub verdictLine : List ℕ → List ℕ
-verdictLine v = numbersLine (numbers v)
+verdictLine v = numbersLine (numbers (readVerdict v))
 
 -- the lines of the first k verdicts
 unfoldable pub verdictLines : ℕ → List ℕ → List ℕ
@@ -50,18 +43,9 @@ named word x after = word ++ field x after
 unfoldable pub lastLine : ℕ → ℕ → ℕ → List ℕ
 lastLine stop judged read = named (bytesOf "stop ") stop 32 ++ (named (bytesOf "judged ") judged 32 ++ named (bytesOf "read ") read 10)
 
--- a text in a buffer from a place on, the rest as it was
-abbrev pub put : ℕ → List ℕ → List ℕ → List ℕ
-put at t out = take at out ++ (t ++ drop (at + length t) out)
-
--- and from its start on
+-- a text in a buffer from its start on, the rest as it was
 abbrev pub atStart : List ℕ → List ℕ → List ℕ
 atStart t out = t ++ drop (length t) out
-
--- t was written from `at` on, up to r
-pub record Put (at : ℕ) (t : List ℕ) (out₀ out : List ℕ) (r : ℕ) : Type 0 where
-  pub end : r ≡ at + length t
-  pub is : out ≡ put at t out₀
 
 -- the longest line: 20, 5, 3, 5 and 20 digits, and a byte after each number
 abbrev pub lineMost : ℕ

@@ -3,7 +3,6 @@ ghost use mathlib.Core.Path.{_≡_};
 ghost use Prim.Native.Nat.{_+_, _≤_};
 ghost use mathlib.Core.List.{[], _∷_};
 ghost use lib.ListN.{length};
-ghost use Rattle.batch.specs.Verdict.{verdictSize};
 ghost use Rattle.report.specs.Digits.{decimalDigits};
 ghost use Rattle.report.specs.Text.{
   field,
@@ -11,13 +10,13 @@ ghost use Rattle.report.specs.Text.{
   verdictLine,
   heading,
   named,
-  Put,
   rendered,
   renderingOf,
   placed,
   ended,
 };
 ghost use Rattle.report.specs.Offset.{offsetOf};
+ghost use Rattle.report.specs.Inner.{Put};
 use answer::Step;
 use text::Number;
 use text::Set;
@@ -83,6 +82,7 @@ fn put_field(out: &mut [u8], at: usize, x: u64, after: u8) -> usize
     end + 1
 }
 
+// Five numbers as a line, with a space between them, at a place: where it ends.
 fn put_row(
     out: &mut [u8],
     at: usize,
@@ -102,17 +102,21 @@ fn put_row(
     put_field(out, d, number, b'\n')
 }
 
-// The line of the verdict at the start of v.
+// The line of the verdict at the start of v, at a place: where it ends.
 fn put_line(out: &mut [u8], at: usize, v: &[u8]) -> usize
-    requires { ⌜ (verdictSize ≤ length (now v)) × (at + length (verdictLine (now v)) ≤ length (now out)) ⌝ }
+    requires { ⌜ at + length (verdictLine (now v)) ≤ length (now out) ⌝ }
     ensures { λ r. ⌜ Put at (verdictLine (now (v .entry))) (now (out .entry)) (now (out .exit)) r ⌝ }
 {
-    let offset = batch::read_number(&v[4..12]);
-    let kind = batch::read_number(&v[2..4]);
-    let answer = batch::read_number(&v[12..13]);
-    let place = batch::read_number(&v[14..16]);
-    let number = batch::read_number(&v[16..24]);
-    put_row(out, at, offset, kind, answer, place, number)
+    let d = batch::read_verdict(v);
+    put_row(
+        out,
+        at,
+        d.offset,
+        d.kind as u64,
+        d.answer as u64,
+        d.place as u64,
+        d.number,
+    )
 }
 
 // The lines of the verdicts at the start of a buffer, as long as there is room for the longest line.
@@ -141,6 +145,7 @@ pub fn lines(verdicts: &[u8], out: &mut [u8]) -> Rendered
     }
 }
 
+// The first line: a word for each number of a row.
 pub fn heading() -> [u8; 32]
     ensures { λ r. ⌜ r ≡ heading ⌝ }
 {

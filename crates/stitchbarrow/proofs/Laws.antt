@@ -6,7 +6,7 @@ use native.Mathlib.Omega.{arith}
 use borrow.Rule.Slice.PartMut.{putMid}
 use lib.ListN.{length, set, take, drop, drop-of-length-le}
 use lib.Seq.{take-length, drop-drop}
-use Rattle.batch.specs.Number.{toBytes}
+use Rattle.record.specs.Number.{toBytes}
 use Rattle.stitchbarrow.specs.Sheets.{sheetSize, sheetBytes}
 use Rattle.sheet.specs.declared.Sheet.{Sheet}
 

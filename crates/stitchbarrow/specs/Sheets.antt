@@ -2,7 +2,7 @@
 use Prim.Native.Nat.{ℕ}
 use mathlib.Core.List.{List, _++_}
 use lib.ListN.{take, drop}
-use Rattle.batch.specs.Number.{toBytes, littleAt}
+use Rattle.record.specs.Number.{toBytes, littleAt}
 use Rattle.sheet.specs.declared.Sheet.{Sheet}
 
 abbrev pub sheetSize : ℕ

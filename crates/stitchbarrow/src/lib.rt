@@ -84,9 +84,9 @@ fn read_sheet(b: &[u8]) -> Sheet
     requires { ⌜ sheetSize ≤ length (now b) ⌝ }
     ensures { λ r. ⌜ r ≡ sheetAt (now (b .entry)) ⌝ }
 {
-    let kind = batch::read_number(&b[0..2]) as u16;
-    let length = batch::read_number(&b[2..4]) as usize;
-    let remainder = batch::read_number(&b[4..12]);
+    let kind = record::read_number(&b[0..2]) as u16;
+    let length = record::read_number(&b[2..4]) as usize;
+    let remainder = record::read_number(&b[4..12]);
     let mut text = [0u8; 34];
     bytes::copy(&b[12..46], &mut text);
     Sheet {
@@ -101,9 +101,9 @@ fn write_sheet(b: &mut [u8], s: Sheet)
     requires { ⌜ sheetSize ≤ length (now b) ⌝ }
     ensures { λ _. ⌜ now (b .exit) ≡ sheetBytes s ++ drop sheetSize (now (b .entry)) ⌝ }
 {
-    batch::write_number(&mut b[0..2], s.kind as u64);
-    batch::write_number(&mut b[2..4], s.length as u64);
-    batch::write_number(&mut b[4..12], s.remainder);
+    record::write_number(&mut b[0..2], s.kind as u64);
+    record::write_number(&mut b[2..4], s.length as u64);
+    record::write_number(&mut b[4..12], s.remainder);
     let text = s.text;
     bytes::copy(&text, &mut b[12..46]);
 }

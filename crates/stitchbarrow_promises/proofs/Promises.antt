@@ -6,7 +6,7 @@ use mathlib.Core.List.{List, [], _∷_, _++_}
 use mathlib.Core.Logic.{_≢_}
 use lib.ListN.{length, drop}
 use Rattle.iban.specs.Format.{padded}
-use Rattle.batch.specs.Number.{Bytes}
+use Rattle.record.specs.Number.{Bytes}
 use Rattle.sheet.specs.Sheets.{emptySheet}
 use Rattle.sheet.specs.Load.{summed, loadOf, standing}
 use Rattle.sheet.specs.declared.Request.{Request}

@@ -11,7 +11,7 @@ use lib.ListN.{length, drop, length-append, length-drop}
 use lib.Seq.{drop-at}
 use Rattle.answer.specs.Table.{numberOf}
 use Rattle.answer.specs.declared.Answer.{Answer}
-use Rattle.batch.specs.Number.{Bytes}
+use Rattle.record.specs.Number.{Bytes}
 use Rattle.batch.specs.Verdict.{answerBytes}
 use Rattle.sheet.specs.Load.{summed}
 use Rattle.sheet.specs.declared.Sheet.{Sheet}

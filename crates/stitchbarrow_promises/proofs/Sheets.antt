@@ -12,8 +12,8 @@ use Rattle.checkdigit.specs.Sum.{remainderOf, ibanRemainder}
 use Rattle.checkdigit.proofs.Digits.{remainder-low}
 use Rattle.checkdigit.proofs.Iban.{iban-low}
 use Rattle.iban.proofs.Padded.{length-padded}
-use Rattle.batch.specs.Number.{toBytes, littleAt, Bytes}
-use Rattle.batch.proofs.Numbers.{read-back, number-back}
+use Rattle.record.specs.Number.{toBytes, littleAt, Bytes}
+use Rattle.record.proofs.Numbers.{read-back, number-back}
 use Rattle.sheet.specs.Sheets.{remainderBy, sheetOf, held}
 use Rattle.sheet.specs.declared.Sheet.{Sheet}
 use Rattle.sheet.proofs.Sheets.{Stood, stood-few, stood-text}

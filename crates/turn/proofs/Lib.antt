@@ -1,6 +1,2 @@
--- The laws and theorems of `turn`.
+-- The laws of `turn`.
 pub mod Laws
-pub mod Cutting
-pub mod Rows
-pub mod Promises
-pub mod Worked

@@ -1,5 +1,2 @@
--- The definitions that the contracts and promises of `turn` cite.
+-- The definitions that the contracts of `turn` cite. The program's whole run, turn after turn, stands in `turn_promises`.
 pub mod Turn
-pub mod Stream
-pub mod Output
-pub mod Rows

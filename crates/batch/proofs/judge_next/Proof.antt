@@ -4,11 +4,13 @@ use mathlib.Core.Path.{_≡_, _∙_, sym}
 use native.Mathlib.Omega.{arith}
 use lib.ListN.{length, drop, length-drop, take-append-drop}
 use denote.Ref.{now}
-use Rattle.batch.specs.Head.{headOf}
-use Rattle.batch.specs.Records.{verdictOf}
+use Rattle.record.specs.Head.{headOf}
+use Rattle.batch.specs.Verdict.{verdictOf}
 use Rattle.batch.specs.Walk.{nextOf}
-use Rattle.batch.proofs.Heads.{Whole, whole, Judged, judged}
-use Rattle.batch.proofs.Laws.{to-end, put-back, value-at}
+use Rattle.record.proofs.Heads.{Whole, whole}
+use Rattle.batch.proofs.Acts.{Judged, judged}
+use Rattle.record.proofs.Parts.{to-end, put-back}
+use Rattle.batch.proofs.Laws.{value-at}
 use borrow.Author.Needs.{needs}
 use Rattle.batch.proofs.judge_next.Statement.{statement}
 use Rattle.batch.proofs.judge_next.Tie as tie

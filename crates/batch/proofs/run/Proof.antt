@@ -6,9 +6,9 @@ use lib.ListN.{length, drop, length-drop}
 use borrow.Author.Needs.{needs}
 use borrow.Author.Tests.{le-leb, lt-leb}
 use denote.Ref.{now}
-use Rattle.batch.specs.Head.{headOf}
+use Rattle.record.specs.Head.{headOf}
 use Rattle.batch.specs.Walk.{callOf}
-use Rattle.batch.proofs.Heads.{Judged}
+use Rattle.batch.proofs.Acts.{Judged}
 use Rattle.batch.proofs.Laws.{Going, start, stop, again, kept, may, fits}
 use Rattle.batch.proofs.run.Statement.{statement}
 use Rattle.batch.proofs.run.Tie as tie

@@ -3,7 +3,7 @@ use native.Mathlib.Omega.{arith}
 use borrow.Author.Needs.{needs}
 use mathlib.Core.Path.{_∙_}
 use lib.ListN.{take, drop}
-use Rattle.batch.proofs.Numbers.{number-most, part-long, part-read}
+use Rattle.record.proofs.Numbers.{number-most, part-long, part-read}
 use Rattle.stitchbarrow.specs.Sheets.{sheetAt}
 use Rattle.stitchbarrow.proofs.Laws.{copied-whole}
 use Rattle.stitchbarrow.proofs.read_sheet.Statement.{statement}

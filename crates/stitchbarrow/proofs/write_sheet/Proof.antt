@@ -5,7 +5,7 @@ use mathlib.Core.Path.{_≡_}
 use mathlib.Core.List.{_++_}
 use lib.ListN.{length, take, drop, length-take, length-drop}
 use borrow.Rule.Slice.PartMut.{putMid}
-use Rattle.batch.proofs.Numbers.{part-long, part-written}
+use Rattle.record.proofs.Numbers.{part-long, part-written}
 use Rattle.stitchbarrow.proofs.Laws.{copied-whole, laid}
 use Rattle.stitchbarrow.proofs.write_sheet.Statement.{statement}
 use Rattle.stitchbarrow.proofs.write_sheet.Tie as tie

@@ -1,0 +1,1 @@
+// What is promised of the program's run, as theorems on lists: no function stands here. One turn of the program is `turn::turn`.
