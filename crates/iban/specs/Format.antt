@@ -1,4 +1,4 @@
--- An IBAN in electronic format as the code has it: the word of every step but the remainder, and its text in 34 bytes, those past its last
+-- An IBAN in electronic format as the code has it: what every step but the remainder says, and its text in 34 bytes, those past its last
 -- character zero.
 use Prim.Native.Nat.{ℕ, zero, suc}
 use mathlib.Core.List.{List, [], _∷_}
@@ -15,7 +15,7 @@ padded zero t = []
 padded (suc n) [] = 0 ∷ padded n []
 padded (suc n) (b ∷ t) = b ∷ padded n t
 
--- the word of some steps, with the text where they pass; where one stops, no text
+-- what some steps say, with the text where they pass; where one stops, no text
 unfoldable pub formatBy : Step → List ℕ → Electronic
 formatBy Pass t = record { step = Pass; count = length t; text = padded 34 t }
 formatBy (Stop r k) t = record { step = Stop r k; count = 0; text = padded 34 [] }

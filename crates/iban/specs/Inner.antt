@@ -9,7 +9,7 @@ use Rattle.iban.specs.Iban.{asciiStep}
 use Rattle.iban.specs.Format.{padded}
 use Rattle.iban.specs.declared.Electronic.{Electronic}
 
--- what a first pass over a field finds: the word of the first step; where it passes, the text and its count
+-- what a first pass over a field finds: what the first step says; where it passes, the text and the count of its characters
 pub record Dropped (s : List ℕ) (e : Electronic) : Type 0 where
   pub ascii : e .step ≡ asciiStep s
   pub holds : e .step ≡ Pass → (e .text ≡ padded 34 (electronicText s)) × (e .count ≡ length (electronic s))

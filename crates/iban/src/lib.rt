@@ -16,8 +16,8 @@ use answer::Step;
 use text::Set;
 use utf8::Decoded;
 
-// The word of every step but the remainder; and where they pass, the IBAN in electronic format (without blanks), zeros past its last
-// character.
+// What every step but the remainder says of a field; and where all of them pass, the IBAN in electronic format, that is, without blanks: its
+// characters, their count, and zeros past the last of them.
 pub struct Electronic {
     pub step: Step,
     pub count: usize,
@@ -30,7 +30,7 @@ pub fn zeros() -> [u8; 34]
     [0u8; 34]
 }
 
-// A byte more, where there is room: past 34 characters only their count matters.
+// A byte more after `count` bytes, where there is room: an IBAN of more than 34 characters is refused by their count alone.
 fn put(text: &mut [u8], count: usize, b: u8)
     ensures { λ _. ⌜ now (text .exit) ≡ set (now (text .entry)) count b ⌝ }
 {
@@ -39,7 +39,7 @@ fn put(text: &mut [u8], count: usize, b: u8)
     }
 }
 
-// The characters of a field that are no blanks, up to the first that is not ASCII and the first byte at which no character starts.
+// The characters of a field without its blanks. A character that is not ASCII is refused, and so is a byte at which no character starts.
 fn drop_blanks(s: &[u8]) -> Electronic
     ensures { λ r. ⌜ Dropped (now (s .entry)) r ⌝ }
 {
@@ -77,7 +77,7 @@ fn wide(b: u8) -> u32
     b as u32
 }
 
-// The same for a field of ASCII bytes alone: each byte is a character, so that none is decoded and none can be refused here.
+// The same for a field of which every byte is ASCII: each is a character, so that nothing is decoded and nothing is refused.
 fn drop_ascii_blanks(s: &[u8]) -> Electronic
     requires { ⌜ ascii (now s) ≡ true ⌝ }
     ensures { λ r. ⌜ Dropped (now (s .entry)) r ⌝ }
@@ -148,7 +148,7 @@ fn place_of(s: &[u8], k: usize) -> usize
     0
 }
 
-// What a step said of the text in electronic format, said of the lent field.
+// A class step counts places in the electronic format; its caller is told the place in the lent field, blanks included.
 fn reason_in(s: &[u8], reason: Reason) -> Reason
     ensures { λ r. ⌜ r ≡ reasonIn (electronic (now (s .entry))) reason ⌝ }
 {

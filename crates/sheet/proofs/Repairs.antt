@@ -21,7 +21,7 @@ use Rattle.checkdigit.proofs.Fill.{tens-digit, ones-digit}
 use Rattle.sheet.specs.Sheets.{characters, remainderBy, held}
 use Rattle.sheet.specs.Load.{refusal, standing}
 use Rattle.sheet.specs.Repairs.{digitsPlace, filled, asked, placeStep, byteStep, textStep, unfit, givenSteps, requestSteps, sheetStep, repairBy, repairOf}
-use Rattle.sheet.specs.Inner.{filledBytes, askedBytes, renewedBy}
+use Rattle.sheet.specs.Inner.{filledBytes, askedBytes, firstSteps, renewedBy}
 use Rattle.sheet.specs.declared.Request.{Request}
 use Rattle.sheet.specs.declared.Request.the-variants.{Replace, Exchange, Fill}
 use Rattle.sheet.specs.declared.Sheet.{Sheet}
@@ -59,7 +59,7 @@ pub text-passes : (kind : ℕ) (t : List ℕ) → Fit kind t → textStep kind t
 unfolding textStep
 text-passes kind t f = rw (f .passes)
 
--- the code's step on the text, from the word of the character steps
+-- the code's step on the text, from what the character steps say
 pub text-step-is : (kind : ℕ) (t : List ℕ) (x : Step) → characters kind t ≡ x → unfit x ≡ textStep kind t
 unfolding textStep
 text-step-is kind t x e = ap unfit (sym e)
@@ -133,10 +133,7 @@ asked-front s Fill e =
 
 -- places are tested against the length that a sheet names: where it stands, this is its text's
 module _ (s : Sheet) (q : Request) where
-  abbrev pub firstSteps : Step
-  firstSteps = sheetStep s andThen givenSteps (s .length) q
-
-  pub repairs : firstSteps ≡ Pass → (t : List ℕ) → t ≡ take (s .length) (askedBytes s q) → renewedBy (textStep (s .kind) t) s t ≡ repairOf s q
+  pub repairs : firstSteps s q ≡ Pass → (t : List ℕ) → t ≡ take (s .length) (askedBytes s q) → renewedBy (textStep (s .kind) t) s t ≡ repairOf s q
   unfolding requestSteps renewedBy repairBy
   repairs e t is =
       let p = both-pass (sheetStep s) (givenSteps (s .length) q) e in
@@ -152,7 +149,7 @@ module _ (s : Sheet) (q : Request) where
           (record { known = o .fit .known; plain = asked-plain (s .kind) (held s) q (o .fit) g; passes = text-passed (s .kind) (asked (s .kind) (held s) q) e })
       go (Stop r k) e o g = refl
 
-  pub repair-stops : (r : Reason) (k : ℕ) → firstSteps ≡ Stop r k → refusal s r k ≡ repairOf s q
+  pub repair-stops : (r : Reason) (k : ℕ) → firstSteps s q ≡ Stop r k → refusal s r k ≡ repairOf s q
   unfolding repairOf requestSteps repairBy _andThen_
   repair-stops r k e = rw (go (sheetStep s) refl e)
     where

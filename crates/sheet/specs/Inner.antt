@@ -2,13 +2,14 @@
 use Prim.Native.Nat.{ℕ}
 use mathlib.Core.List.{List}
 use lib.ListN.{take, set}
+use Rattle.answer.specs.Steps.{_andThen_}
 use Rattle.answer.specs.declared.Step.{Step}
 use Rattle.answer.specs.declared.Step.the-variants.{Pass, Stop}
 use Rattle.checkdigit.specs.Sum.{exchanged}
 use Rattle.checkdigit.specs.Fill.{checkDigits, stamped}
 use Rattle.sheet.specs.Sheets.{remainderBy}
 use Rattle.sheet.specs.Load.{refusal, loadOf}
-use Rattle.sheet.specs.Repairs.{digitsPlace}
+use Rattle.sheet.specs.Repairs.{digitsPlace, givenSteps, sheetStep}
 use Rattle.sheet.specs.declared.Request.{Request}
 use Rattle.sheet.specs.declared.Request.the-variants.{Replace, Exchange, Fill}
 use Rattle.sheet.specs.declared.Sheet.{Sheet}
@@ -28,6 +29,10 @@ unfoldable pub askedBytes : Sheet → Request → List ℕ
 askedBytes s (Replace place byte) = set (s .text) place byte
 askedBytes s (Exchange i j) = exchanged (s .text) i j
 askedBytes s Fill = filledBytes s
+
+-- the refusals before the new text, with places tested against the length that the sheet names
+abbrev pub firstSteps : Sheet → Request → Step
+firstSteps s q = sheetStep s andThen givenSteps (s .length) q
 
 -- the repair to a new text, after the step on that text: a load of it
 unfoldable pub renewedBy : Step → Sheet → List ℕ → Repaired

@@ -10,7 +10,7 @@ ghost use Rattle.iban.specs.Format.{padded};
 ghost use Rattle.sheet.specs.Sheets.{sheetKind, heldText, characters, remainderBy, sheetOf, emptySheet, sameSheet};
 ghost use Rattle.sheet.specs.Load.{refusal, summed, loadOf, standing};
 ghost use Rattle.sheet.specs.Repairs.{digitsPlace, placeStep, byteStep, textStep, givenSteps, sheetStep, repairOf};
-ghost use Rattle.sheet.specs.Inner.{sheetWith, filledBytes, askedBytes, renewedBy};
+ghost use Rattle.sheet.specs.Inner.{sheetWith, filledBytes, askedBytes, firstSteps, renewedBy};
 use answer::Answer;
 use answer::Reason;
 use answer::Step;
@@ -324,14 +324,20 @@ fn renewed(sheet: Sheet, t: &[u8]) -> Repaired
     }
 }
 
+// The refusals that come before the new text: 20, then those of what the request gives.
+fn first_steps(sheet: Sheet, request: Request) -> Step
+    ensures { λ r. ⌜ r ≡ firstSteps sheet request ⌝ }
+{
+    sheet_step(sheet).then(given_steps(sheet.length, request))
+}
+
 pub fn repair(sheet: Sheet, request: Request) -> Repaired
     ensures { λ r. ⌜ r ≡ repairOf sheet request ⌝ }
 {
-    let length = sheet.length;
-    match sheet_step(sheet).then(given_steps(length, request)) {
+    match first_steps(sheet, request) {
         Step::Pass => {
             let text = asked(sheet, request);
-            renewed(sheet, front(&text, length))
+            renewed(sheet, front(&text, sheet.length))
         }
         Step::Stop(reason, check) => refused(sheet, reason, check),
     }

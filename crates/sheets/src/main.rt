@@ -13,7 +13,7 @@ fn number(n: u64) {
     io::print_decimal(STDOUT_FILENO, n);
 }
 
-// The bytes of the length, and none where a forged length is above them.
+// The first `length` bytes, and none where a forged length is above 34.
 fn line(length: usize, text: [u8; 34]) {
     write(b" ");
     if length <= 34 {

@@ -32,7 +32,7 @@ enum Call {
 // What a function returns where a lent slice is too short for what it would write.
 const TOO_SHORT: u8 = 255;
 
-// The bytes of an answer, and of a sheet.
+// How many bytes an answer takes, and a sheet.
 const ANSWER_SIZE: usize = 12;
 
 const SHEET_SIZE: usize = 46;
@@ -117,8 +117,8 @@ fn made(call: Call, value: &[u8], old: Sheet) -> Repaired
     }
 }
 
-// A call on the sheet that lent bytes write: the sheet and the answer go to the first bytes of their slices, where both are long enough. Only
-// a load reads `value`.
+// Makes a call on the sheet that the first 46 bytes of `sheet` write, and writes the new sheet there and the answer to `answer`. Only a load
+// reads `value`.
 fn reply(call: Call, value: &[u8], sheet: &mut [u8], answer: &mut [u8]) -> u8
     ensures { λ r. ⌜ record { code = r; sheet = now (sheet .exit); answer = now (answer .exit) } ≡ sheetReply (madeOf call (now (value .entry)) (sheetAt (now (sheet .entry)))) (now (sheet .entry)) (now (answer .entry)) ⌝ }
 {

@@ -1,4 +1,4 @@
--- `iban::electronic_format` meets its contract: the first pass, the count, and the class steps on the text, whose word is said of the lent field.
+-- `iban::electronic_format` meets its contract: the first pass, the count, and the class steps on the text, whose places are put back into the lent field.
 use mathlib.Core.Path.{sym, ap, _∙_}
 use native.Mathlib.Omega.{arith}
 use denote.Ref.{now}

@@ -1,4 +1,4 @@
--- `iban::validate_iban` meets its contract: the character steps' word, and the sum's over the text in electronic format where they pass.
+-- `iban::validate_iban` meets its contract: what the character steps say, and where they pass the step on the remainder of the text in electronic format.
 use Prim.Native.Nat.{ℕ}
 use mathlib.Core.Path.{sym, _∙_, ap}
 use native.Mathlib.Omega.{arith}

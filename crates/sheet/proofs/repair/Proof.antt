@@ -1,19 +1,12 @@
--- `sheet::repair` meets its contract: the refusals before the text in their order, and the repair to the text that was asked for.
+-- `sheet::repair` meets its contract: the refusals before the text, and the repair to the text that was asked for.
 use mathlib.Core.Path.{_∙_, sym}
-use borrow.Author.Needs.{needs}
-use Rattle.answer.proofs.Laws.{then-is}
 use Rattle.sheet.proofs.Repairs.{repairs, repair-stops}
+use borrow.Author.Needs.{needs}
 use Rattle.sheet.proofs.repair.Statement.{statement}
 use Rattle.sheet.proofs.repair.Tie as tie
 
-sheet-step-requires : tie.Need-sheet-step-requires
-sheet-step-requires c κs = search needs
-
-given-steps-requires : tie.Need-given-steps-requires
-given-steps-requires c κs = search needs
-
-then-requires : tie.Need-then-requires
-then-requires c κs = search needs
+first-steps-requires : tie.Need-first-steps-requires
+first-steps-requires c κs = search needs
 
 enum-told : tie.Need-enum-told
 enum-told c = search needs
@@ -40,25 +33,19 @@ returns : tie.Need-returns
 returns c =
     let a = c .before .before .before in
     let e = a .before in
-    let t = e .before .before in
     c .renewed .ensures
-    ∙ repairs _ _ (sym (then-is (t .then .ensures) (t .before .before .sheet-step .ensures) (t .before .given-steps .ensures)) ∙ e .enum-told .given .1) _
-    (rw (a .asked .ensures) at (c .before .front .ensures))
+    ∙ repairs _ _ (sym (e .before .before .first-steps .ensures) ∙ e .enum-told .given .1) _ (rw (a .asked .ensures) at (c .before .front .ensures))
 
 returns-2 : tie.Need-returns-2
 returns-2 c =
     let r = c .before .before in
-    let t = r .before .before in
-    c .refused .ensures
-    ∙ repair-stops _ _ _ _ (sym (then-is (t .then .ensures) (t .before .before .sheet-step .ensures) (t .before .given-steps .ensures)) ∙ r .reason .given .1)
+    c .refused .ensures ∙ repair-stops _ _ _ _ (sym (r .before .before .first-steps .ensures) ∙ r .reason .given .1)
 
 pub repair-spec : {M : Type 1} → statement M
 repair-spec =
     tie.close
     (tie.spec
-    sheet-step-requires
-    given-steps-requires
-    then-requires
+    first-steps-requires
     enum-told
     asked-requires
     slice-aggregate-front

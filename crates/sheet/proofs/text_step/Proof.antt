@@ -1,4 +1,4 @@
--- `sheet::text_step` meets its contract: the word of the character steps, as refusal 22.
+-- `sheet::text_step` meets its contract: what the character steps say, as refusal 22.
 use mathlib.Core.Path.{ap, sym, _∙_}
 use Rattle.answer.specs.declared.Numbers.{Numbers}
 use Rattle.answer.specs.declared.Step.the-variants.{Pass, Stop}
