@@ -21,7 +21,7 @@ use answer::Reason;
 use answer::Step;
 use text::Set;
 
-// The date in bytes 0 to 9. The kind numbers the steps, which several kinds share.
+// The date in bytes 0 to 9. Kinds 4 and 5 share these steps, and the kind gives their check numbers.
 fn date_part(s: &[u8], kind: u8) -> Step
     ensures { λ r. ⌜ r ≡ datePart (now (s .entry)) kind ⌝ }
 {
@@ -131,7 +131,7 @@ fn ends_at(s: &[u8], i: usize, check: u16) -> Step
     }
 }
 
-// The five bytes after a sign. That they are there is tested before a place is counted on.
+// The five bytes after a sign. That there are five is tested first: then i + 5 is at most the field's length, and does not wrap.
 fn offset_part(s: &[u8], i: usize, kind: u8) -> Step
     requires { ⌜ i ≤ length (now s) ⌝ }
     ensures { λ r. ⌜ r ≡ offsetPart (now (s .entry)) i kind ⌝ }

@@ -1,6 +1,6 @@
 // The check of one field: the choice on the kind, with the steps that every field passes before its rule.
 ghost use mathlib.Core.Path.{_≡_};
-ghost use Rattle.field.specs.Field.{unknownStep, limitStep, ruleOf, checkField};
+ghost use Rattle.field.specs.Field.{limitStep, ruleOf, checkField};
 ghost use Rattle.field.specs.Inner.{utf8Step, beforeRule, afterRule, Suits};
 use answer::Answer;
 use answer::Reason;
@@ -22,6 +22,7 @@ enum Way {
     Unknown,
 }
 
+// A new kind has a line here and one in `rule`.
 fn way_of(kind: u16) -> Way
     ensures { λ r. ⌜ Suits r kind ⌝ }
 {
@@ -87,7 +88,11 @@ fn admit(value: &[u8]) -> Step
     }
 }
 
-// An unknown kind has no step here: `rule` refuses it.
+// The steps that are asked before the rule. An unknown kind has none: `rule` refuses it.
+//
+// `let lent = value;`, here and below, is there for speed. A slice is a pointer and a length, which stay in registers; but where a parameter is
+// itself handed to a function that the compiler does not inline, it is copied to memory at the start of every call, whether or not that
+// function is reached. A local is copied only where it is reached, and for most fields it is not.
 fn before_rule(way: Way, value: &[u8]) -> Step
     ensures { λ r. ⌜ r ≡ beforeRule way (now (value .entry)) ⌝ }
 {
@@ -102,6 +107,7 @@ fn before_rule(way: Way, value: &[u8]) -> Step
     }
 }
 
+// The step that is left for a field that its rule refused.
 fn after_rule(way: Way, value: &[u8]) -> Step
     ensures { λ r. ⌜ r ≡ afterRule way (now (value .entry)) ⌝ }
 {
@@ -113,8 +119,7 @@ fn after_rule(way: Way, value: &[u8]) -> Step
     }
 }
 
-// `lent` is another name for the field, and is there for speed: where `value` itself is handed to a function that is not compiled into this one,
-// the compiler copies it to memory at the start of every call; so it does so only for a field that its rule refuses.
+// The check of a field of any kind.
 pub fn check_field(kind: u16, value: &[u8]) -> Answer
     ensures { λ r. ⌜ r ≡ checkField kind (now (value .entry)) ⌝ }
 {

@@ -15,7 +15,7 @@ pub record Ch : Type 0 where
 abbrev pub ch : ℕ → ℕ → Ch
 ch c w = record { scalar = c; width = w }
 
--- the character that was found, and then those past its bytes, of which one is passed already
+-- the character that was found, and then those past its other bytes; its first is passed already
 abbrev pub then : Decoded → (ℕ → List Ch) → List Ch
 then Bad rest = []
 then (Char c w) rest = ch c w ∷ rest (pred w)
