@@ -3,19 +3,22 @@
 use Prim.Native.Nat.{ℕ, _+_, _-_, _^_, _<_}
 use mathlib.Core.Path.{_≡_, sym, ap, subst, _∙_}
 use mathlib.Core.Bool.{false}
-use mathlib.Core.List.{List, _++_}
+use mathlib.Core.List.{List, [], _++_}
 use native.Mathlib.Omega.{arith}
 use lib.ListN.{length, take}
 use Rattle.batch.specs.declared.Stop.the-variants.{Long}
+use Rattle.record.specs.Records.{recordsOf}
+use Rattle.batch.specs.Verdict.{verdictsOf}
 use Rattle.batch_promises.specs.GoingOn.{Sum, allOf, pauses}
 use Rattle.report.specs.Text.{heading, verdictLines}
 use Rattle.turn_promises.specs.Stream.{Stream, started, called, feed, input}
 use Rattle.turn_promises.specs.Output.{lastOf, outputOf}
 use Rattle.turn_promises.proofs.Promises.{all-done, same-output, at-long}
+use Rattle.turn_promises.proofs.Cutting.{Fed, fed-start, fed}
 use Rattle.judge.specs.declared.State.{State}
 use Rattle.judge.specs.declared.Next.{Next}
 use Rattle.judge.specs.declared.Ahead.the-variants.{LastLine}
-use Rattle.judge.specs.Run.{Called, Served, Closing, lastRow}
+use Rattle.judge.specs.Run.{Reached, Called, Served, Closing, lastRow}
 use Rattle.judge.proofs.Laws.{turns-led, turns-from}
 
 module _ (came wrote buf : List ℕ) (s : State) (k : Called came wrote buf s) (h : s .start + length came < 2 ^ 64) where
@@ -51,6 +54,21 @@ module _ (came wrote buf : List ℕ) (s : State) (k : Called came wrote buf s) (
   whatever-follows e rest =
       whole-output ∙ ap (λ (x : Sum). heading ++ (verdictLines (x .judged) (x .bytes) ++ lastOf x))
       (sym same ∙ at-long (k .events) (k .last) (s .start) below (k .is .stop ∙ e) rest ∙ ap (λ (b : List ℕ). allOf (b ++ rest) (s .start)) (k .all))
+
+-- at every moment, also where the program is ended from outside or fails: what was handed to writes are the lines of the first records of what came
+module _ (came wrote buf : List ℕ) (s : State) (k : Reached came wrote buf s) (h : s .start + length came < 2 ^ 64) where
+  abbrev now : Stream
+  now = feed (k .events) (started (s .start))
+
+  here : Fed (s .start) came now
+  here =
+      subst (λ (b : List ℕ). Fed (s .start) b now) (k .all)
+      (fed (s .start) (k .events) [] (started (s .start)) (rw (k .all) h) (fed-start (s .start)))
+
+  pub so-far : wrote ≡ verdictLines (s .judged) (verdictsOf (take (s .judged) (recordsOf came (s .start))))
+  so-far =
+      sym (k .is .text) ∙ here .lines ∙ ap (verdictLines (now .done .judged)) (here .part .bytes)
+      ∙ ap (λ (j : ℕ). verdictLines j (verdictsOf (take j (recordsOf came (s .start))))) (k .is .judged)
 
 -- the program writes the heading, then turns follow each other from the start on, then it writes the first k bytes of the text: where the
 -- turns ended with a last line, all that is what SCOPE asks for the bytes that came

@@ -31,8 +31,8 @@ enum Ahead {
     Nothing,
 }
 
-// The buffer's bytes from `at` up to `end` are not judged yet; `offset` is the stream offset of the first of them, `start` that of
-// the input's first byte. `stop` is why the last call stopped.
+// The buffer's bytes from `at` up to `end` are held: they came in and are not judged yet. `offset` is the stream offset of the first of
+// them, `start` that of the input's first byte; `judged` counts the records so far, and `stop` is why the last call stopped.
 struct State {
     at: usize,
     end: usize,
@@ -63,6 +63,7 @@ struct Written {
     whole: bool,
 }
 
+// After 31 and 32 the call is made again; where what is held has no whole record more, input is read; 34 and 35 end the run.
 fn way_after(stop: Stop) -> Way
     ensures { λ r. ⌜ r ≡ wayAfter stop ⌝ }
 {
@@ -269,6 +270,7 @@ fn last_line(text: &mut [u8], s: State) -> usize
     report::last_line(text, stop.number() as u64, s.judged, s.offset - s.start)
 }
 
+// The whole run: the heading, the turns and, unless input or output failed, the last line.
 fn run_from(start: u64) {
     let head = report::heading();
     let h = write_out(&head);
@@ -287,6 +289,7 @@ fn run_from(start: u64) {
     }
 }
 
+// A bad argument is told, and nothing is read or written.
 fn refuse() {
     io::write_all(
         2,
@@ -294,6 +297,7 @@ fn refuse() {
     );
 }
 
+// The one argument, if there is one, is the stream offset of the first byte.
 fn main() {
     let count = os::arg_count();
     if count < 2 {

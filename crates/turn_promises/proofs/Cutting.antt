@@ -21,7 +21,7 @@ pub record Fed (offset : ℕ) (all : List ℕ) (s : Stream) : Type 0 where
   pub lines : s .text ≡ verdictLines (s .done .judged) (s .done .bytes)
   pub part : Part all offset (s .done)
 
-fed-start : (offset : ℕ) → Fed offset [] (started offset)
+pub fed-start : (offset : ℕ) → Fed offset [] (started offset)
 unfolding verdictLines
 fed-start offset = record { place = sym (add-zero offset); rest = refl; lines = refl; part = nothing-done [] offset (started offset .done .stop) }
 
