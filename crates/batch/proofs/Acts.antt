@@ -8,7 +8,7 @@ use borrow.Author.Tests.{ltb-true, ltb-false, eqb-true, eqb-false, ne-eqb, le-lt
 use Rattle.record.specs.declared.Head.{Head}
 use Rattle.record.specs.declared.Head.the-variants.{End, Short, TooLong, CutShort, Record}
 use Rattle.record.proofs.Heads.{stands}
-use Rattle.batch.specs.Verdict.{verdictSize}
+use Rattle.verdict.specs.Verdict.{verdictSize}
 use Rattle.batch.specs.Walk.{endOf, unlessSpent, nextOf}
 use Rattle.batch.specs.declared.Stop.{Stop}
 use Rattle.batch.specs.declared.Stop.the-variants.{Finished, Budget, Room, Cut, Offset, Long}

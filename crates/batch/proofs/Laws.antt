@@ -13,7 +13,8 @@ use borrow.Author.Tests.{lt-leb}
 use Rattle.record.specs.Head.{headOf}
 use Rattle.record.specs.Records.{recordAt}
 use Rattle.record.proofs.Heads.{Whole, whole}
-use Rattle.batch.specs.Verdict.{verdictSize, verdictOf}
+use Rattle.verdict.specs.Verdict.{verdictSize}
+use Rattle.batch.specs.Verdicts.{verdictOf}
 use Rattle.batch.specs.Walk.{nextOf, stopped, ahead, walk, callOf}
 use Rattle.batch.specs.Inner.{actOut}
 use Rattle.batch.specs.declared.Stop.{Stop}

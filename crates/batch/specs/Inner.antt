@@ -3,7 +3,8 @@ use Prim.Native.Nat.{ℕ}
 use mathlib.Core.List.{List, _++_}
 use lib.ListN.{drop}
 use Rattle.record.specs.Records.{recordAt}
-use Rattle.batch.specs.Verdict.{verdictSize, verdictOf}
+use Rattle.verdict.specs.Verdict.{verdictSize}
+use Rattle.batch.specs.Verdicts.{verdictOf}
 use Rattle.batch.specs.declared.Act.{Act}
 use Rattle.batch.specs.declared.Act.the-variants.{Stops, Judges}
 

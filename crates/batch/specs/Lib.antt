@@ -1,4 +1,4 @@
 -- The definitions that the contracts of `batch` cite. Those that only its promises cite stand in `batch_promises`.
-pub mod Verdict
+pub mod Verdicts
 pub mod Walk
 pub mod Inner

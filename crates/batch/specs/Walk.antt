@@ -8,7 +8,8 @@ use Rattle.record.specs.Head.{headOf}
 use Rattle.record.specs.Records.{recordAt}
 use Rattle.record.specs.declared.Head.{Head}
 use Rattle.record.specs.declared.Head.the-variants.{End, Short, TooLong, CutShort, Record}
-use Rattle.batch.specs.Verdict.{verdictSize, verdictOf}
+use Rattle.verdict.specs.Verdict.{verdictSize}
+use Rattle.batch.specs.Verdicts.{verdictOf}
 use Rattle.batch.specs.declared.Stop.{Stop}
 use Rattle.batch.specs.declared.Stop.the-variants.{Finished, Budget, Room, Cut, Offset, Long}
 use Rattle.batch.specs.declared.Act.{Act}

@@ -1,18 +1,15 @@
-// A batch of records is judged: the bytes of a verdict, written and read back, and the call that judges record after record. What a record is
-// stands in `record`, and what a field's answer is in `field`.
+// A batch of records is judged: what a call does before each record, and the call that judges record after record. What a record is stands in
+// `record`, what is written for it in `verdict`, and what a field's answer is in `field`.
 ghost use mathlib.Core.Path.{_≡_};
 ghost use mathlib.Core.List.{_++_};
 ghost use Prim.Native.Nat.{_+_, _-_, _≤_};
 ghost use lib.ListN.{length, take, drop};
 ghost use Rattle.record.specs.Head.{headOf};
-ghost use Rattle.batch.specs.Verdict.{verdictSize, answerBytes, verdict, readVerdict};
+ghost use Rattle.verdict.specs.Verdict.{verdictSize, verdict};
 ghost use Rattle.batch.specs.Walk.{stopNumber, unlessSpent, nextOf, outcomeOf, callOf};
 ghost use Rattle.batch.specs.Inner.{actOut};
 use answer::Answer;
 use record::Head;
-
-// How many bytes each record yields.
-pub const VERDICT_SIZE: usize = 24;
 
 // Why a call stopped.
 pub enum Stop {
@@ -54,15 +51,6 @@ pub struct Ran {
     pub written: usize,
 }
 
-// What a verdict says of its record: the stream offset, the kind, and the three numbers of the answer.
-pub struct Verdict {
-    pub offset: u64,
-    pub kind: u16,
-    pub answer: u8,
-    pub place: u16,
-    pub number: u64,
-}
-
 // With the budget spent 31 comes before any stop but 0.
 fn unless_spent(budget: u64, why: Stop) -> Act
     ensures { λ r. ⌜ r ≡ unlessSpent budget (Act.Stops why) ⌝ }
@@ -86,90 +74,11 @@ pub fn next(head: Head, room: usize, budget: u64) -> Act
             if budget == 0 {
                 return Act::Stops(Stop::Budget);
             }
-            if room < VERDICT_SIZE {
+            if room < verdict::VERDICT_SIZE {
                 return Act::Stops(Stop::Room);
             }
             Act::Judges { kind, length }
         }
-    }
-}
-
-// An answer's part of a verdict: the answer, zero, place, number.
-pub fn answer_bytes(a: Answer) -> [u8; 12]
-    ensures { λ r. ⌜ r ≡ answerBytes a ⌝ }
-{
-    let p = a.place();
-    let n = record::eight(a.value());
-    [
-        a.number(),
-        0,
-        (p % 256) as u8,
-        (p / 256 % 256) as u8,
-        n[0],
-        n[1],
-        n[2],
-        n[3],
-        n[4],
-        n[5],
-        n[6],
-        n[7],
-    ]
-}
-
-// A verdict's bytes: the length of what follows the first four, the kind, the offset, the answer.
-fn verdict_bytes(kind: u16, offset: u64, a: Answer) -> [u8; VERDICT_SIZE]
-    ensures { λ r. ⌜ r ≡ verdict kind offset a ⌝ }
-{
-    let o = record::eight(offset);
-    let t = answer_bytes(a);
-    [
-        (VERDICT_SIZE - 4) as u8,
-        0,
-        (kind % 256) as u8,
-        (kind / 256 % 256) as u8,
-        o[0],
-        o[1],
-        o[2],
-        o[3],
-        o[4],
-        o[5],
-        o[6],
-        o[7],
-        t[0],
-        t[1],
-        t[2],
-        t[3],
-        t[4],
-        t[5],
-        t[6],
-        t[7],
-        t[8],
-        t[9],
-        t[10],
-        t[11],
-    ]
-}
-
-// What the verdict at the start of `v` says, read from the places where it was written; fewer bytes than a verdict has say nothing, 0
-// throughout. Nobody else knows these places.
-pub fn read_verdict(v: &[u8]) -> Verdict
-    ensures { λ r. ⌜ r ≡ readVerdict (now (v .entry)) ⌝ }
-{
-    if v.len() < VERDICT_SIZE {
-        return Verdict {
-            offset: 0,
-            kind: 0,
-            answer: 0,
-            place: 0,
-            number: 0,
-        };
-    }
-    Verdict {
-        offset: record::read_number(&v[4..12]),
-        kind: record::read_number(&v[2..4]) as u16,
-        answer: v[12],
-        place: record::read_number(&v[14..16]) as u16,
-        number: record::read_number(&v[16..24]),
     }
 }
 
@@ -178,7 +87,7 @@ fn write_verdict(out: &mut [u8], kind: u16, offset: u64, a: Answer)
     requires { ⌜ verdictSize ≤ length (now out) ⌝ }
     ensures { λ _. ⌜ now (out .exit) ≡ verdict kind offset a ++ drop verdictSize (now (out .entry)) ⌝ }
 {
-    let v = verdict_bytes(kind, offset, a);
+    let v = verdict::verdict_bytes(kind, offset, a);
     bytes::copy(&v, out);
 }
 
@@ -230,7 +139,7 @@ pub fn run(batch: &[u8], offset: u64, out: &mut [u8], budget: u64) -> Ran
             Act::Judges { kind: _, length } => {
                 judged = judged + 1;
                 at = at + (4 + length);
-                w = w + VERDICT_SIZE;
+                w = w + verdict::VERDICT_SIZE;
             }
         }
     }

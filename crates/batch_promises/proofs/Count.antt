@@ -13,7 +13,8 @@ use Rattle.record.specs.declared.Head.{Head}
 use Rattle.record.specs.declared.Head.the-variants.{Record}
 use Rattle.record.proofs.Heads.{stands}
 use Rattle.record.proofs.Records.{Walks, none, one, walks, first, size, sizes-none}
-use Rattle.batch.specs.Verdict.{verdictSize, verdictOf, verdictsOf}
+use Rattle.verdict.specs.Verdict.{verdictSize}
+use Rattle.batch.specs.Verdicts.{verdictOf, verdictsOf}
 use Rattle.batch.specs.Walk.{nextOf, Outcome, stopped, ahead, walk}
 use Rattle.batch.specs.declared.Stop.{Stop}
 use Rattle.batch.specs.declared.Stop.the-variants.{Finished, Budget, Room, Cut, Offset, Long}

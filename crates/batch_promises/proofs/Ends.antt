@@ -12,7 +12,7 @@ use Rattle.record.specs.declared.Head.{Head}
 use Rattle.record.specs.declared.Head.the-variants.{End, Short, TooLong, CutShort, Record}
 use Rattle.record.proofs.Heads.{says, long-on, stands}
 use Rattle.record.proofs.Records.{walks, none, unique, append}
-use Rattle.batch.specs.Verdict.{verdictsOf}
+use Rattle.batch.specs.Verdicts.{verdictsOf}
 use Rattle.batch.specs.Walk.{endOf}
 use Rattle.batch.specs.declared.Stop.{Stop}
 use Rattle.batch.specs.declared.Stop.the-variants.{Finished, Budget, Room, Cut, Offset, Long}

@@ -11,7 +11,8 @@ use Rattle.record.specs.Head.{headOf}
 use Rattle.record.specs.Records.{recordsOf, sizes, offsetsOf, Increasing}
 use Rattle.record.specs.declared.Head.{Head}
 use Rattle.record.proofs.Records.{walks, unique, rest, append, inside, increasing, rising, sizes-none, sizes-least, sizes-append}
-use Rattle.batch.specs.Verdict.{verdictSize, verdictsOf}
+use Rattle.verdict.specs.Verdict.{verdictSize}
+use Rattle.batch.specs.Verdicts.{verdictsOf}
 use Rattle.batch.specs.Walk.{endOf, Outcome, stopped, walk, callOf}
 use Rattle.batch.specs.declared.Stop.{Stop}
 use Rattle.batch.specs.declared.Stop.the-variants.{Finished, Budget, Room, Cut, Offset, Long}

@@ -11,7 +11,8 @@ use borrow.Author.Tests.{leb-false}
 use Rattle.record.specs.Head.{headOf}
 use Rattle.record.specs.Records.{RecordAt, recordsOf, offsetsOf, Increasing}
 use Rattle.record.specs.declared.Head.the-variants.{Record}
-use Rattle.batch.specs.Verdict.{verdictSize, verdict, verdictOf}
+use Rattle.verdict.specs.Verdict.{verdictSize, verdict}
+use Rattle.batch.specs.Verdicts.{verdictOf}
 use Rattle.batch.specs.Walk.{stopNumber, callOf}
 use Rattle.batch.specs.declared.Stop.{Stop}
 use Rattle.batch.specs.declared.Stop.the-variants.{Finished, Budget, Room, Cut, Offset, Long}

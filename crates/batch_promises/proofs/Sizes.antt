@@ -10,7 +10,7 @@ use borrow.Author.Tests.{leb-false}
 use Rattle.record.specs.Head.{headLimit, headOf}
 use Rattle.record.specs.Records.{recordsOf, sizes}
 use Rattle.record.specs.declared.Head.{Head}
-use Rattle.batch.specs.Verdict.{verdictSize}
+use Rattle.verdict.specs.Verdict.{verdictSize}
 use Rattle.batch.specs.Walk.{endOf, Outcome, stopped, callOf}
 use Rattle.batch.specs.declared.Stop.{Stop}
 use Rattle.batch.specs.declared.Stop.the-variants.{Finished, Budget, Room, Cut, Offset, Long}

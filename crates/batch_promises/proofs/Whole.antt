@@ -15,8 +15,9 @@ use Rattle.record.specs.Records.{RecordAt, recordAt}
 use Rattle.record.specs.declared.Head.the-variants.{Record}
 use Rattle.record.proofs.Numbers.{number-most, read-back}
 use Rattle.record.proofs.Heads.{whole, value-long}
-use Rattle.batch.specs.Verdict.{answerBytes, verdictOf, readVerdict, saying}
-use Rattle.batch.proofs.Verdicts.{read-verdict}
+use Rattle.verdict.specs.Verdict.{answerBytes, readVerdict, saying}
+use Rattle.batch.specs.Verdicts.{verdictOf}
+use Rattle.verdict.proofs.Verdicts.{read-verdict}
 
 -- an answer's place and value stand whole in its bytes
 pub answer-reads : (a : Answer) → Small a → (littleAt (answerBytes a) 2 2 ≡ placeOf a) × (littleAt (answerBytes a) 4 8 ≡ valueOf a)

@@ -16,7 +16,8 @@ use Rattle.country.specs.Country.{countries, countryAnswer}
 use Rattle.common.specs.Cents as cents
 use Rattle.field.specs.Field.{admission, ruleOf, checkField}
 use Rattle.record.specs.Head.{headOf}
-use Rattle.batch.specs.Verdict.{answerBytes, verdict, verdictOf}
+use Rattle.verdict.specs.Verdict.{answerBytes, verdict}
+use Rattle.batch.specs.Verdicts.{verdictOf}
 use Rattle.batch.specs.Walk.{nextOf, Outcome, stopped, walk, callOf}
 use Rattle.batch.specs.declared.Stop.{Stop}
 use Rattle.batch.specs.declared.Stop.the-variants.{Finished, Budget, Room, Cut, Offset, Long}

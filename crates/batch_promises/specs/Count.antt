@@ -6,7 +6,8 @@ use lib.ListN.{length, take, drop}
 use Rattle.record.specs.Head.{headOf}
 use Rattle.record.specs.Records.{RecordAt, sizes}
 use Rattle.record.specs.declared.Head.{Head}
-use Rattle.batch.specs.Verdict.{verdictSize, verdictsOf}
+use Rattle.verdict.specs.Verdict.{verdictSize}
+use Rattle.batch.specs.Verdicts.{verdictsOf}
 use Rattle.batch.specs.Walk.{endOf, Outcome}
 use Rattle.batch.specs.declared.Stop.{Stop}
 use Rattle.batch.specs.declared.Stop.the-variants.{Finished, Budget, Room, Cut, Offset, Long}

@@ -5,7 +5,7 @@ use mathlib.Core.Bool.{Bool, true, false, cond}
 use lib.ListN.{length, take, drop}
 use Rattle.record.specs.Head.{headOf}
 use Rattle.record.specs.Records.{recordsOf, sizes}
-use Rattle.batch.specs.Verdict.{verdictsOf}
+use Rattle.batch.specs.Verdicts.{verdictsOf}
 use Rattle.batch.specs.Walk.{endOf, Outcome, callOf}
 use Rattle.batch.specs.declared.Stop.{Stop}
 use Rattle.batch.specs.declared.Stop.the-variants.{Finished, Budget, Room, Cut, Offset, Long}

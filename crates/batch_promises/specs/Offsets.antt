@@ -2,7 +2,7 @@
 use Prim.Native.Nat.{ℕ, zero, suc}
 use mathlib.Core.List.{List, [], _∷_}
 use lib.ListN.{drop}
-use Rattle.batch.specs.Verdict.{verdictSize, readVerdict}
+use Rattle.verdict.specs.Verdict.{verdictSize, readVerdict}
 
 -- the offsets that the first k verdicts say
 unfoldable pub offsetsIn : ℕ → List ℕ → List ℕ

@@ -5,7 +5,7 @@ use mathlib.Core.Bool.{true}
 use mathlib.Core.List.{List, _++_}
 use lib.ListN.{length, take}
 use Rattle.record.specs.Head.{headLimit}
-use Rattle.batch.specs.Verdict.{verdictSize}
+use Rattle.verdict.specs.Verdict.{verdictSize}
 use Rattle.batch_promises.specs.GoingOn.{pauses, Call}
 use Rattle.batch.specs.declared.Stop.the-variants.{Finished, Cut}
 use Rattle.report.specs.Text.{lineMost}

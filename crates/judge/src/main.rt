@@ -278,7 +278,7 @@ fn run_from(start: u64) {
         return;
     }
     let mut buf = io::large_buffer();
-    let mut out = [0u8; RECORDS * batch::VERDICT_SIZE];
+    let mut out = [0u8; RECORDS * verdict::VERDICT_SIZE];
     let mut text = [0u8; RECORDS * report::LINE_MOST];
     let n = serve(&mut buf, &mut out, &mut text, start);
     let ahead = n.ahead;

@@ -14,8 +14,8 @@ use Rattle.text.proofs.Classes.{is-digit}
 use Rattle.text.proofs.Decimals.{number-append, fits}
 use Rattle.text.proofs.Near.{Small}
 use Rattle.text.proofs.Ranges.{both-parts, both-of}
-use Rattle.batch.specs.Verdict.{verdict, readVerdict, saying}
-use Rattle.batch.proofs.Verdicts.{read-verdict}
+use Rattle.verdict.specs.Verdict.{verdict, readVerdict, saying}
+use Rattle.verdict.proofs.Verdicts.{read-verdict}
 use Rattle.report.specs.declared.Offset.the-variants.{Is}
 use Rattle.report.specs.Digits.{decimalDigits}
 use Rattle.report.specs.Offset.{digitsOnly, offsetOf}

@@ -13,9 +13,9 @@ use lib.Seq.{take-at, drop-append-le, drop-drop}
 use Rattle.record.specs.Number.{Bytes}
 use Rattle.record.proofs.Parts.{to-end}
 use Rattle.record.proofs.Numbers.{bytes-drop}
-use Rattle.batch.specs.Verdict.{verdictSize, readVerdict}
-use Rattle.batch.specs.declared.Verdict.{Verdict}
-use Rattle.batch.proofs.Verdicts.{read-front, read-most}
+use Rattle.verdict.specs.Verdict.{verdictSize, readVerdict}
+use Rattle.verdict.specs.declared.Verdict.{Verdict}
+use Rattle.verdict.proofs.Verdicts.{read-front, read-most}
 use Rattle.report.specs.declared.Rendered.{Rendered}
 use Rattle.report.specs.Text.{
   numbers,

@@ -6,7 +6,7 @@ use Rattle.answer.specs.declared.Answer.the-variants.{Accepted}
 use Rattle.text.specs.Class.{classOf}
 use Rattle.text.specs.Decimal.{decimal, numberWritten, fitted}
 use Rattle.text.specs.Quote.{bytesOf}
-use Rattle.batch.specs.Verdict.{answerBytes, verdict, readVerdict}
+use Rattle.verdict.specs.Verdict.{answerBytes, verdict, readVerdict}
 use Rattle.report.specs.declared.Offset.{Offset}
 use Rattle.report.specs.declared.Offset.the-variants.{Is, Not}
 use Rattle.report.specs.Digits.{decimalDigitsIn, decimalDigits}

@@ -5,8 +5,8 @@ use lib.Dec.{ltb}
 use lib.ListN.{length, drop}
 use mathlib.Core.Bool.{cond}
 use Rattle.text.specs.Quote.{bytesOf}
-use Rattle.batch.specs.Verdict.{verdictSize, readVerdict}
-use Rattle.batch.specs.declared.Verdict.{Verdict}
+use Rattle.verdict.specs.Verdict.{verdictSize, readVerdict}
+use Rattle.verdict.specs.declared.Verdict.{Verdict}
 use Rattle.report.specs.declared.Rendered.{Rendered}
 use Rattle.report.specs.Digits.{decimalDigits}
 

@@ -107,7 +107,7 @@ fn put_line(out: &mut [u8], at: usize, v: &[u8]) -> usize
     requires { ⌜ at + length (verdictLine (now v)) ≤ length (now out) ⌝ }
     ensures { λ r. ⌜ Put at (verdictLine (now (v .entry))) (now (out .entry)) (now (out .exit)) r ⌝ }
 {
-    let d = batch::read_verdict(v);
+    let d = verdict::read_verdict(v);
     put_row(
         out,
         at,
@@ -127,7 +127,7 @@ pub fn lines(verdicts: &[u8], out: &mut [u8]) -> Rendered
     let mut i = 0;
     let mut at = 0;
     loop {
-        if verdicts.len() - i < batch::VERDICT_SIZE {
+        if verdicts.len() - i < verdict::VERDICT_SIZE {
             return Rendered {
                 verdicts: k,
                 written: at,
@@ -140,7 +140,7 @@ pub fn lines(verdicts: &[u8], out: &mut [u8]) -> Rendered
             };
         }
         at = put_line(out, at, &verdicts[i..]);
-        i += batch::VERDICT_SIZE;
+        i += verdict::VERDICT_SIZE;
         k += 1;
     }
 }

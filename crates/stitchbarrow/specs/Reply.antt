@@ -7,7 +7,7 @@ use lib.ListN.{length, drop}
 use Rattle.answer.specs.Table.{numberOf}
 use Rattle.answer.specs.declared.Answer.{Answer}
 use Rattle.field.specs.Field.{checkField}
-use Rattle.batch.specs.Verdict.{answerBytes}
+use Rattle.verdict.specs.Verdict.{answerBytes}
 use Rattle.batch.specs.Walk.{Outcome, callOf, stopNumber}
 use Rattle.sheet.specs.declared.Repaired.{Repaired}
 use Rattle.stitchbarrow.specs.Sheets.{sheetSize, sheetBytes}

@@ -42,7 +42,7 @@ fn tell(a: Answer, answer: &mut [u8]) -> u8
     requires { ⌜ answerSize ≤ length (now answer) ⌝ }
     ensures { λ r. ⌜ record { code = r; bytes = now (answer .exit) } ≡ answerReply a (now (answer .entry)) ⌝ }
 {
-    let bytes = batch::answer_bytes(a);
+    let bytes = verdict::answer_bytes(a);
     bytes::copy(&bytes, answer);
     a.number()
 }

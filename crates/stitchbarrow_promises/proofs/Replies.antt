@@ -12,7 +12,7 @@ use lib.Seq.{drop-at}
 use Rattle.answer.specs.Table.{numberOf}
 use Rattle.answer.specs.declared.Answer.{Answer}
 use Rattle.record.specs.Number.{Bytes}
-use Rattle.batch.specs.Verdict.{answerBytes}
+use Rattle.verdict.specs.Verdict.{answerBytes}
 use Rattle.sheet.specs.Load.{summed}
 use Rattle.sheet.specs.declared.Sheet.{Sheet}
 use Rattle.sheet.specs.declared.Repaired.{Repaired}

@@ -10,7 +10,7 @@ use lib.Seq.{take-append-le, length-take-le}
 use borrow.Author.Tests.{ltb-true, ltb-false}
 use Rattle.record.specs.Number.{Bytes}
 use Rattle.record.proofs.Numbers.{bytes-take}
-use Rattle.batch.specs.Verdict.{verdictSize}
+use Rattle.verdict.specs.Verdict.{verdictSize}
 use Rattle.batch.specs.Walk.{Outcome, outcomeOf, callOf}
 use Rattle.batch.specs.declared.Ran.{Ran}
 use Rattle.batch_promises.proofs.Sizes.{Sized, sized}

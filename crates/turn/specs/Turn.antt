@@ -4,7 +4,7 @@ use mathlib.Core.List.{List, _++_}
 use lib.Dec.{ltb}
 use lib.ListN.{length, take, drop}
 use mathlib.Core.Bool.{cond}
-use Rattle.batch.specs.Verdict.{verdictSize}
+use Rattle.verdict.specs.Verdict.{verdictSize}
 use Rattle.batch.specs.Walk.{Outcome, callOf}
 use Rattle.batch.specs.declared.Stop.{Stop}
 use Rattle.report.specs.Text.{verdictLines, atStart, lineMost}

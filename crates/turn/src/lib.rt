@@ -15,7 +15,7 @@ pub struct Turned {
 fn room(out: usize, text: usize) -> usize
     ensures { λ r. ⌜ r ≡ roomOf out text ⌝ }
 {
-    let most = text / report::LINE_MOST * batch::VERDICT_SIZE;
+    let most = text / report::LINE_MOST * verdict::VERDICT_SIZE;
     if most < out { most } else { out }
 }
 

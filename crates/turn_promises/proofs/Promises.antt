@@ -10,7 +10,7 @@ use lib.Seq.{take-length}
 use Rattle.record.specs.Number.{Bytes}
 use Rattle.record.specs.Records.{recordsOf}
 use Rattle.record.proofs.Records.{walks}
-use Rattle.batch.specs.Verdict.{verdictsOf}
+use Rattle.batch.specs.Verdicts.{verdictsOf}
 use Rattle.batch.specs.Walk.{callOf}
 use Rattle.batch.specs.declared.Stop.the-variants.{Long}
 use Rattle.batch.proofs.Verdicts.{length-verdictsOf}

@@ -11,7 +11,8 @@ use Rattle.record.specs.Records.{RecordAt, recordAt}
 use Rattle.record.proofs.Numbers.{bytes-drop}
 use Rattle.record.proofs.Heads.{whole}
 use Rattle.record.proofs.Records.{Walks, none, one}
-use Rattle.batch.specs.Verdict.{verdictSize, verdictOf, verdictsOf}
+use Rattle.verdict.specs.Verdict.{verdictSize}
+use Rattle.batch.specs.Verdicts.{verdictOf, verdictsOf}
 use Rattle.batch.proofs.Verdicts.{length-verdictOf, verdictsOf-more}
 use Rattle.batch_promises.proofs.Whole.{holds, record-reads}
 use Rattle.report.specs.Text.{verdictLines}

@@ -17,7 +17,8 @@ use Rattle.common.specs.Cents as cents
 use Rattle.field.specs.Field.{admission, ruleOf, checkField}
 use Rattle.record.specs.Head.{headOf}
 use Rattle.record.specs.Records.{recordsPast, sizes}
-use Rattle.batch.specs.Verdict.{answerBytes, verdict, verdictOf, verdictsOf, readVerdict}
+use Rattle.verdict.specs.Verdict.{answerBytes, verdict, readVerdict}
+use Rattle.batch.specs.Verdicts.{verdictOf, verdictsOf}
 use Rattle.batch_promises.proofs.Worked.{example}
 use Rattle.report.specs.Digits.{decimalDigitsIn, decimalDigits}
 use Rattle.report.specs.Text.{field, numbersLine, verdictLine, verdictLines, heading, named, lastLine}

@@ -5,7 +5,7 @@ use native.Mathlib.Omega.{arith}
 use lib.ListN.{length, drop, length-drop, take-append-drop}
 use denote.Ref.{now}
 use Rattle.record.specs.Head.{headOf}
-use Rattle.batch.specs.Verdict.{verdictOf}
+use Rattle.batch.specs.Verdicts.{verdictOf}
 use Rattle.batch.specs.Walk.{nextOf}
 use Rattle.record.proofs.Heads.{Whole, whole}
 use Rattle.batch.proofs.Acts.{Judged, judged}

@@ -1,5 +1,7 @@
 -- `batch::write_verdict` meets its contract: the array is the verdict, and is copied to the start of the output.
-use Rattle.batch.specs.Verdict.{answerBytes, verdict}
+use Rattle.record.proofs.Parts.{copied}
+use Rattle.verdict.specs.Verdict.{verdictSize}
+use Rattle.verdict.proofs.Verdicts.{length-verdict}
 use borrow.Author.Needs.{needs}
 use Rattle.batch.proofs.write_verdict.Statement.{statement}
 use Rattle.batch.proofs.write_verdict.Tie as tie
@@ -17,8 +19,9 @@ same-length : tie.Need-same-length
 same-length c = search needs
 
 returns : tie.Need-returns
-unfolding verdict answerBytes
-returns c = rw (c .before .before .before .before .before .verdict-bytes .ensures) at (c .before .before .copy .ensures .1)
+returns c =
+    let v = c .before .before .before .before .before .verdict-bytes in
+    copied verdictSize (v .result) _ _ _ (v .ensures) (length-verdict _ _ _) (c .before .before .copy .ensures .1)
 
 pub write-verdict-spec : {M : Type 1} → statement M
 write-verdict-spec =

@@ -1,6 +1,6 @@
 -- `stitchbarrow::tell` meets its contract: the answer's bytes are copied over the front of the slice.
 use borrow.Author.Needs.{needs}
-use Rattle.batch.specs.Verdict.{answerBytes}
+use Rattle.verdict.specs.Verdict.{answerBytes}
 use Rattle.stitchbarrow.specs.Reply.{answerReply}
 use Rattle.stitchbarrow.proofs.tell.Statement.{statement}
 use Rattle.stitchbarrow.proofs.tell.Tie as tie

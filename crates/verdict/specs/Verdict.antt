@@ -1,15 +1,13 @@
 -- SCOPE, "The batch": the bytes that a record yields, "length 20 and the kind, two bytes each; the record's stream offset, eight; the answer, one; zero, one; place, two; number, eight; all little-endian".
 use Prim.Native.Nat.{ℕ, _-_}
 use mathlib.Core.Bool.{cond}
-use mathlib.Core.List.{List, [], _∷_, _++_}
+use mathlib.Core.List.{List, _∷_, _++_}
 use lib.Dec.{ltb}
 use lib.ListN.{length, getD}
 use Rattle.answer.specs.Table.{numberOf, placeOf, valueOf}
 use Rattle.answer.specs.declared.Answer.{Answer}
-use Rattle.field.specs.Field.{checkField}
 use Rattle.record.specs.Number.{toBytes, littleAt}
-use Rattle.record.specs.Records.{RecordAt}
-use Rattle.batch.specs.declared.Verdict.{Verdict}
+use Rattle.verdict.specs.declared.Verdict.{Verdict}
 
 -- how many bytes each record yields
 abbrev pub verdictSize : ℕ
@@ -22,15 +20,6 @@ answerBytes a = numberOf a ∷ 0 ∷ toBytes 2 (placeOf a) ++ toBytes 8 (valueOf
 -- the length counts what follows the first four bytes, as in a record
 unfoldable pub verdict : ℕ → ℕ → Answer → List ℕ
 verdict kind offset a = toBytes 2 (verdictSize - 4) ++ (toBytes 2 kind ++ (toBytes 8 offset ++ answerBytes a))
-
--- what a record yields: the verdict of its rule on its value
-unfoldable pub verdictOf : RecordAt → List ℕ
-verdictOf e = verdict (e .kind) (e .offset) (checkField (e .kind) (e .value))
-
--- and records, one after another
-unfoldable pub verdictsOf : List RecordAt → List ℕ
-verdictsOf [] = []
-verdictsOf (e ∷ es) = verdictOf e ++ verdictsOf es
 
 -- what the verdict at the start of v says, by the places where its numbers stand; fewer bytes than a verdict has say nothing
 unfoldable pub readVerdict : List ℕ → Verdict

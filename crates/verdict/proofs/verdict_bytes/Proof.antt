@@ -1,8 +1,8 @@
--- `batch::verdict_bytes` meets its contract: the array is the verdict's parts, in the definition's order.
-use Rattle.batch.specs.Verdict.{answerBytes, verdict}
+-- `verdict::verdict_bytes` meets its contract: the array is the verdict's parts, in the definition's order.
+use Rattle.verdict.specs.Verdict.{answerBytes, verdict}
 use borrow.Author.Needs.{needs}
-use Rattle.batch.proofs.verdict_bytes.Statement.{statement}
-use Rattle.batch.proofs.verdict_bytes.Tie as tie
+use Rattle.verdict.proofs.verdict_bytes.Statement.{statement}
+use Rattle.verdict.proofs.verdict_bytes.Tie as tie
 
 eight-requires : tie.Need-eight-requires
 eight-requires c κs = search needs

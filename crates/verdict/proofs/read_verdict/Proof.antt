@@ -1,12 +1,12 @@
--- `batch::read_verdict` meets its contract: a whole verdict's numbers are read from the definition's places, and fewer bytes say nothing.
+-- `verdict::read_verdict` meets its contract: a whole verdict's numbers are read from the definition's places, and fewer bytes say nothing.
 use mathlib.Core.Path.{_∙_}
 use native.Mathlib.Omega.{arith}
 use borrow.Author.Needs.{needs}
 use borrow.Author.Tests.{lt-ltb, le-ltb}
 use Rattle.record.proofs.Numbers.{number-most, part-read}
-use Rattle.batch.specs.Verdict.{readVerdict}
-use Rattle.batch.proofs.read_verdict.Statement.{statement}
-use Rattle.batch.proofs.read_verdict.Tie as tie
+use Rattle.verdict.specs.Verdict.{readVerdict}
+use Rattle.verdict.proofs.read_verdict.Statement.{statement}
+use Rattle.verdict.proofs.read_verdict.Tie as tie
 
 returns : tie.Need-returns
 unfolding readVerdict

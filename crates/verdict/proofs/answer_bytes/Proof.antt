@@ -1,8 +1,8 @@
--- `batch::answer_bytes` meets its contract: the four numbers are the answer's, and the array is their bytes in the definition's order.
-use Rattle.batch.specs.Verdict.{answerBytes}
+-- `verdict::answer_bytes` meets its contract: the four numbers are the answer's, and the array is their bytes in the definition's order.
+use Rattle.verdict.specs.Verdict.{answerBytes}
 use borrow.Author.Needs.{needs}
-use Rattle.batch.proofs.answer_bytes.Statement.{statement}
-use Rattle.batch.proofs.answer_bytes.Tie as tie
+use Rattle.verdict.proofs.answer_bytes.Statement.{statement}
+use Rattle.verdict.proofs.answer_bytes.Tie as tie
 
 place-requires : tie.Need-place-requires
 place-requires c κs = search needs
