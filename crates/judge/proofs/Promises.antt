@@ -8,7 +8,7 @@ use native.Mathlib.Omega.{arith}
 use lib.ListN.{length, take}
 use Rattle.batch.specs.declared.Stop.the-variants.{Long}
 use Rattle.record.specs.Records.{recordsOf}
-use Rattle.batch.specs.Yields.{verdictsOf}
+use Rattle.batch.specs.Verdicts.{verdictsOf}
 use Rattle.batch_promises.specs.GoingOn.{Sum, allOf, pauses}
 use Rattle.report.specs.Text.{heading, verdictLines}
 use Rattle.turn_promises.specs.Stream.{Stream, started, called, feed, input}
