@@ -19,6 +19,7 @@ fn room(out: usize, text: usize) -> usize
     if most < out { most } else { out }
 }
 
+// One call on the bytes held, into as much of the output as has room for its lines in the text, and these lines.
 pub fn turn(held: &[u8], offset: u64, out: &mut [u8], text: &mut [u8], budget: u64) -> Turned
     ensures { λ r. ⌜ turningOf r (now (out .exit)) (now (text .exit)) ≡ turnOf (now (held .entry)) offset (now (out .entry)) (now (text .entry)) budget ⌝ }
 {
