@@ -12,7 +12,7 @@ use Rattle.answer.specs.declared.Step.the-variants.{Pass, Stop}
 use Rattle.utf8.specs.Chars.{chars, widths, validPrefix}
 use Rattle.utf8.specs.Space.{whiteSpace}
 use Rattle.utf8.proofs.Chars.{Stands}
-use Rattle.iban.specs.Electronic.{Character, electronic, textOf, electronicText}
+use Rattle.iban.specs.Electronic.{Character, electronic, textOf}
 use Rattle.iban.specs.Iban.{allAscii, asciiStep}
 use Rattle.iban.specs.Format.{padded}
 use Rattle.iban.specs.Inner.{Dropped}

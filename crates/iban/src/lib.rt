@@ -2,7 +2,7 @@
 ghost use mathlib.Core.Path.{_≡_};
 ghost use mathlib.Core.Bool.{true};
 ghost use mathlib.Core.List.{[]};
-ghost use lib.ListN.{length, set};
+ghost use lib.ListN.{set};
 ghost use Rattle.answer.specs.declared.Reason.{Reason};
 ghost use Rattle.answer.specs.declared.Step.{Step};
 ghost use Rattle.utf8.specs.Chars.{ascii};

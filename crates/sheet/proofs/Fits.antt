@@ -6,17 +6,16 @@ use mathlib.Core.Bool.{Bool, true, false, cond}
 use mathlib.Core.List.{List}
 use native.Mathlib.Nat.{add-zero}
 use native.Mathlib.Omega.{arith}
-use borrow.Author.Tests.{ltb-true, ltb-false, eqb-true, eqb-false, leb-true, leb-false}
-use lib.Dec.{T, eqb, ltb, leb, eqb→eq}
+use borrow.Author.Tests.{ltb-true, ltb-false, eqb-true, eqb-false}
+use lib.Dec.{T, eqb, ltb}
 use lib.ListN.{length, getD, set, length-set}
 use lib.Seq.{getD-set-same, getD-set-other}
 use Rattle.answer.specs.Steps.{must, _andThen_}
 use Rattle.answer.specs.declared.Reason.{Reason}
-use Rattle.answer.specs.declared.Reason.the-variants.{Wrong, Length}
+use Rattle.answer.specs.declared.Reason.the-variants.{Wrong}
 use Rattle.answer.specs.declared.Step.{Step}
 use Rattle.answer.specs.declared.Step.the-variants.{Pass}
 use Rattle.answer.proofs.Laws.{passes, both-pass}
-use Rattle.text.specs.Ranges.{within}
 use Rattle.text.specs.Class.{classOf, holds, allowed, isDigit}
 use Rattle.text.specs.Field.{lengthIs, wrongFrom, firstWrong}
 use Rattle.text.specs.declared.Class.{Class}
@@ -27,7 +26,7 @@ use Rattle.text.proofs.Ranges.{within-yes, within-ends}
 use Rattle.text.proofs.Fields.{all-allowed, allowed-inside}
 use Rattle.text.proofs.Low.{length-held}
 use Rattle.iban.specs.Electronic.{electronic, electronicText}
-use Rattle.iban.specs.Iban.{asciiStep, countStep, classSteps, stepIn, ibanCharacters}
+use Rattle.iban.specs.Iban.{countStep, classSteps, stepIn, ibanCharacters}
 use Rattle.iban.proofs.Electronics.{length-text}
 use Rattle.iban.proofs.Formats.{Passed, passed}
 use Rattle.lei.specs.Lei.{leiCharacters}

@@ -2,12 +2,12 @@
 use Prim.Native.Nat.{ℕ, zero, suc, _+_, _≤_}
 use mathlib.Core.Path.{_≡_, refl, sym, _∙_, ap}
 use mathlib.Core.Bool.{Bool, true, false, cond}
-use mathlib.Core.List.{List, [], _∷_, _++_}
+use mathlib.Core.List.{List, [], _∷_}
 use native.Mathlib.Omega.{arith}
 use borrow.Author.Tests.{le-leb, eq-eqb, ne-eqb}
 use lib.Dec.{T, eqb, ltb}
-use lib.ListN.{length, take, drop, getD}
-use lib.Seq.{take-length, take-all}
+use lib.ListN.{length, take, getD}
+use lib.Seq.{take-all}
 use Rattle.answer.specs.Steps.{must, _andThen_, _orAccept_}
 use Rattle.answer.specs.Table.{rowOf}
 use Rattle.answer.specs.declared.Answer.{Answer}

@@ -12,7 +12,7 @@ use Rattle.answer.specs.declared.Reason.{Reason}
 use Rattle.answer.specs.declared.Reason.the-variants.{NoSheet, NoPlace, Unfit}
 use Rattle.answer.specs.declared.Step.{Step}
 use Rattle.answer.specs.declared.Step.the-variants.{Pass, Stop}
-use Rattle.answer.proofs.Laws.{passes, stops, both-pass, test-held, regroup}
+use Rattle.answer.proofs.Laws.{passes, stops, both-pass, test-held}
 use Rattle.text.specs.Class.{allowed}
 use Rattle.text.specs.declared.Set.the-variants.{LettersDigits}
 use Rattle.text.proofs.Ranges.{is-true}

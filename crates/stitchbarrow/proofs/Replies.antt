@@ -1,9 +1,9 @@
 -- The reply of a load or a repair: nothing is written where a slice is too short, and both are where neither is.
 use Prim.Native.Nat.{ℕ, _≤_, _<_}
 use mathlib.Core.Path.{_≡_}
-use mathlib.Core.List.{List, _++_}
+use mathlib.Core.List.{List}
 use borrow.Author.Tests.{lt-ltb, le-ltb}
-use lib.ListN.{length, drop}
+use lib.ListN.{length}
 use Rattle.sheet.specs.declared.Repaired.{Repaired}
 use Rattle.stitchbarrow.specs.Sheets.{sheetSize}
 use Rattle.stitchbarrow.specs.Reply.{answerSize, SheetReply, handed, sheetReply}

@@ -1,6 +1,6 @@
 -- Laws of the reply of a load or a repair: what is left where a slice is too short and where neither is, after a refusal, and for the next call.
 use Prim.Native.Nat.{ℕ, _≤_}
-use mathlib.Core.Path.{_≡_, refl, sym, _∙_}
+use mathlib.Core.Path.{_≡_, refl}
 use mathlib.Core.Bool.{Bool, true, false, _||_, cond}
 use mathlib.Core.List.{List, _++_}
 use mathlib.Core.Logic.{_≢_}

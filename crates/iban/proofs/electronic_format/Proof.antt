@@ -1,5 +1,5 @@
 -- `iban::electronic_format` meets its contract: the first pass, the count, and the class steps on the text, whose places are put back into the lent field.
-use mathlib.Core.Path.{sym, ap, _∙_}
+use mathlib.Core.Path.{sym, _∙_}
 use native.Mathlib.Omega.{arith}
 use denote.Ref.{now}
 use borrow.Author.Needs.{needs}

@@ -1,5 +1,5 @@
 -- `stitchbarrow::reply` meets its contract: nothing is written where a slice is too short, and else the sheet's bytes and the answer's.
-use mathlib.Core.Path.{ap, _∙_}
+use mathlib.Core.Path.{ap}
 use borrow.Author.Needs.{needs}
 use Rattle.stitchbarrow.specs.Reply.{Reply, answerReply, handed}
 use Rattle.stitchbarrow.proofs.Replies.{short-sheet, short-answer, both-written}
