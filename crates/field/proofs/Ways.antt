@@ -1,9 +1,9 @@
 -- The ways in which a field's steps may be asked: each gives the answers of SCOPE's order where it suits the kind.
 use Prim.Native.Nat.{ℕ, _+_, _≤_}
 use mathlib.Core.Path.{_≡_, refl, sym, _∙_}
-use mathlib.Core.Bool.{true, false}
+use mathlib.Core.Bool.{Bool, true, false}
 use mathlib.Core.List.{List, [], _∷_, map}
-use mathlib.Core.Logic.{inl, inr, ⊎-elim}
+use mathlib.Core.Logic.{_≢_, inl, inr, ⊎-elim}
 use native.Mathlib.Nat.{eq-or-lt-of-le}
 use native.Mathlib.Omega.{arith}
 use borrow.Author.Tests.{eq-eqb, ne-eqb}
@@ -18,7 +18,8 @@ use Rattle.answer.specs.declared.Step.{Step}
 use Rattle.answer.specs.declared.Step.the-variants.{Pass, Stop}
 use Rattle.text.proofs.Low.{Low}
 use Rattle.text.specs.Ranges.{within}
-use Rattle.text.proofs.Ranges.{within-ends, of-keys}
+use Rattle.text.proofs.Ranges.{within-yes, within-ends, of-keys}
+use Rattle.utf8.specs.Chars.{ascii}
 use Rattle.utf8.proofs.Ascii.{below-ascii, ascii-prefix}
 use Rattle.lei.proofs.Accepted.{lei-low}
 use Rattle.bic.proofs.Accepted.{bic-low}
@@ -55,9 +56,9 @@ no-line (k ∷ j ∷ ks) d f n h = rw (ne-eqb n (k .number) (λ e. h (inl e))) (
 pub from-to : (n : ℕ) → OneOf (map (λ k. k .number) kinds) n → (1 ≤ n) × (n ≤ 10)
 from-to n o = within-ends 1 10 n (rw (of-keys (within 1 10) (map (λ k. k .number) kinds) n tt o) tt)
 
--- a text that a rule accepts only where its bytes are below 128 is UTF-8
-low-utf8 : (f : List ℕ → Answer) → ((s : List ℕ) (m : ℕ) → f s ≡ Accepted m → Low s 0 (length s)) → (s : List ℕ) (m : ℕ) → f s ≡ Accepted m → utf8Step s ≡ Pass
-low-utf8 f low s m e = rw (eq-eqb _ _ (ascii-prefix s (below-ascii s (λ i h. low s m e i (omega arith) h))))
+-- a rule that accepts bytes below 128 only accepts ASCII
+low-ascii : (f : List ℕ → Answer) → ((s : List ℕ) (m : ℕ) → f s ≡ Accepted m → Low s 0 (length s)) → (s : List ℕ) (m : ℕ) → f s ≡ Accepted m → ascii s ≡ true
+low-ascii f low s m e = below-ascii s (λ i h. low s m e i (omega arith) h)
 
 module _ (n : ℕ) where
   -- the kind k, or one after it
@@ -67,15 +68,15 @@ module _ (n : ℕ) where
   pub rule-first : 2 ≤ n → n ≤ 10 → Suits RuleFirst n
   unfolding admission ruleOf _andThen_
   rule-first l h =
-      line 2 (λ s. refl, low-utf8 _ lei-low)
-      (line 3 (λ s. refl, low-utf8 _ bic-low)
-      (line 4 (λ s. refl, low-utf8 _ date-low)
-      (line 5 (λ s. refl, low-utf8 _ datetime-low)
-      (line 6 (λ s. refl, low-utf8 _ amount-low)
-      (line 7 (λ s. refl, low-utf8 _ country-low)
-      (line 8 (λ s. refl, low-utf8 _ currency-low)
-      (line 9 (λ s. refl, low-utf8 _ cents-low)
-      (line 10 (λ s. refl, low-utf8 _ lenient-low) (λ u. absurd (omega arith))))))))))
+      line 2 (λ s. refl, low-ascii _ lei-low)
+      (line 3 (λ s. refl, low-ascii _ bic-low)
+      (line 4 (λ s. refl, low-ascii _ date-low)
+      (line 5 (λ s. refl, low-ascii _ datetime-low)
+      (line 6 (λ s. refl, low-ascii _ amount-low)
+      (line 7 (λ s. refl, low-ascii _ country-low)
+      (line 8 (λ s. refl, low-ascii _ currency-low)
+      (line 9 (λ s. refl, low-ascii _ cents-low)
+      (line 10 (λ s. refl, low-ascii _ lenient-low) (λ u. absurd (omega arith))))))))))
       l
 
 pub iban-admitted-first : Suits AdmittedFirst 1
@@ -89,6 +90,22 @@ no-rule n s N m = sym (no-line kinds _ (λ k. k .rule s) n (all-missed (map (λ 
 pub unlisted : (n : ℕ) → (OneOf (map (λ k. k .number) kinds) n → ⊥) → Suits Unknown n
 unfolding checkField admission ruleOf _andThen_ _orAccept_
 unlisted n h s = rw (no-line kinds false (λ k. true) n h, no-line kinds _ (λ k. k .rule s) n h)
+
+-- What the rule of a kind other than the IBAN's accepts is ASCII: an unknown kind's rule accepts nothing.
+pub ruled : (n : ℕ) (s : List ℕ) (m : ℕ) → n ≢ 1 → ruleOf n s ≡ Accepted m → ascii s ≡ true
+unfolding ruleOf _orAccept_
+ruled n s m other e = go (within 2 10 n) refl
+  where
+    go : (t : Bool) → within 2 10 n ≡ t → ascii s ≡ true
+    go true t = let w = within-ends 2 10 n (rw t tt) in rule-first n (w .0) (w .1) .1 s m e
+    go false t =
+        let none : OneOf (map (λ k. k .number) kinds) n → ⊥ = λ o. let w = from-to n o in apart (within-yes 2 10 n (omega arith) (w .1)) t in
+        let r = no-line kinds (Refused (UnknownKind n) 1) (λ k. k .rule s) n none in
+        let z : _≡_ {A = ℕ} 0 1 = cc in
+        absurd (omega arith)
+      where
+        apart : within 2 10 n ≡ true → within 2 10 n ≡ false → ⊥
+        apart p q = let z : _≡_ {A = ℕ} 0 1 = cc in omega arith
 
 -- a rule's answer, where a step is asked after a refusal
 abbrev pub late : Step → Answer → Answer
@@ -110,7 +127,8 @@ late-step Pass (Stop q j) (Refused r k) h = refl
 -- each way that suits a kind gives its answers
 pub any-order : (w : Way) (n : ℕ) (s : List ℕ) → Suits w n → answered (beforeRule w s) (late (afterRule w s) (ruleOf n s)) ≡ checkField n s
 unfolding checkField
-any-order RuleFirst n s h = rw (h .0 s) (late-step (limitStep s) (utf8Step s) (ruleOf n s) (h .1 s))
+any-order RuleFirst n s h =
+    rw (h .0 s) (late-step (limitStep s) (utf8Step s) (ruleOf n s) (λ m e. rw (eq-eqb _ _ (ascii-prefix s (h .1 s m e)))))
 any-order AdmittedFirst n s h = rw (h s, late-pass)
 any-order Exempt n s h = rw (h s, late-pass)
 any-order Unknown n s h = late-pass (ruleOf n s) ∙ h s
