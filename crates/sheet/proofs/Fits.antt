@@ -30,8 +30,7 @@ use Rattle.iban.specs.Iban.{countStep, classSteps, stepIn, ibanCharacters}
 use Rattle.iban.proofs.Electronics.{length-text}
 use Rattle.iban.proofs.Formats.{Passed, passed}
 use Rattle.lei.specs.Lei.{leiCharacters}
-use Rattle.sheet.specs.Sheets.{sheetKind, heldText, characters}
-use Rattle.sheet.specs.Repairs.{digitsPlace}
+use Rattle.sheet.specs.Sheets.{sheetKind, heldText, characters, digitsPlace}
 use Rattle.sheet.proofs.Plain.{Plain, plain-set, plain-text, plain-step}
 
 -- a step whose test holds passes, and so do two that pass

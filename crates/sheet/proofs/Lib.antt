@@ -3,4 +3,3 @@ pub mod Plain
 pub mod Fits
 pub mod Loads
 pub mod Sheets
-pub mod Repairs

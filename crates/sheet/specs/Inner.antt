@@ -18,23 +18,3 @@ use Rattle.sheet.specs.declared.Repaired.{Repaired}
 -- a sheet of these parts, with the remainder of its text
 abbrev pub sheetWith : ℕ → ℕ → List ℕ → Sheet
 sheetWith kind n text = record { kind = kind; length = n; remainder = remainderBy kind (take n text); text = text }
-
--- a sheet's 34 bytes with the check digits filled in
-unfoldable pub filledBytes : Sheet → List ℕ
-filledBytes s =
-    stamped (s .text) (digitsPlace (s .kind)) (checkDigits (remainderBy (s .kind) (take (s .length) (stamped (s .text) (digitsPlace (s .kind)) 0))))
-
--- .. with a repair made as asked
-unfoldable pub askedBytes : Sheet → Request → List ℕ
-askedBytes s (Replace place byte) = set (s .text) place byte
-askedBytes s (Exchange i j) = exchanged (s .text) i j
-askedBytes s Fill = filledBytes s
-
--- the refusals before the new text, with places tested against the length that the sheet names
-abbrev pub firstSteps : Sheet → Request → Step
-firstSteps s q = sheetStep s andThen givenSteps (s .length) q
-
--- the repair to a new text, after the step on that text: a load of it
-unfoldable pub renewedBy : Step → Sheet → List ℕ → Repaired
-renewedBy Pass s t = loadOf (s .kind) t s
-renewedBy (Stop r k) s t = refusal s r k

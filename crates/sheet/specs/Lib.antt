@@ -1,5 +1,4 @@
 -- The definitions that the contracts of `sheet` cite.
 pub mod Sheets
 pub mod Load
-pub mod Repairs
 pub mod Inner

@@ -49,3 +49,7 @@ sameSheet a b =
     && (eqb (a .length) (b .length)
     && (eqb (a .remainder) (b .remainder)
     && sameText (a .text) (b .text)))
+
+-- the check digits' first place: characters 3 and 4 of an IBAN, the last two of an LEI
+abbrev pub digitsPlace : ℕ → ℕ
+digitsPlace kind = cond (eqb kind 1) 2 18

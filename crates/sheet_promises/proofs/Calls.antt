@@ -25,16 +25,16 @@ use Rattle.checkdigit.proofs.Promises.{replaced-not-one, iban-replaced-not-one,
 use Rattle.field.specs.Field.{checkField}
 use Rattle.sheet.specs.Sheets.{sheetKind, heldText, characters, remainderBy, sheetOf, held}
 use Rattle.sheet.specs.Load.{summed, loadOf}
-use Rattle.sheet.specs.declared.Request.{Request}
-use Rattle.sheet.specs.Repairs.{filled, asked, placeStep, byteStep, textStep, unfit, givenSteps, requestSteps, repairBy, repairOf}
-use Rattle.sheet.specs.declared.Request.the-variants.{Replace, Exchange, Fill}
+use Rattle.repairs.specs.declared.Request.{Request}
+use Rattle.repairs.specs.Repairs.{filled, asked, placeStep, byteStep, textStep, unfit, givenSteps, requestSteps, repairBy, repairOf}
+use Rattle.repairs.specs.declared.Request.the-variants.{Replace, Exchange, Fill}
 use Rattle.sheet_promises.specs.Calls.{checkedBy, heldBack}
 use Rattle.sheet.specs.declared.Sheet.{Sheet}
 use Rattle.sheet.specs.declared.Repaired.{Repaired}
 use Rattle.sheet.proofs.Fits.{Fit, by-kind, fit-few, lei-long}
 use Rattle.sheet.proofs.Loads.{fresh, lastCheck, holding, load-other, load-refused, load-taken, taken-fit, taken-check}
 use Rattle.sheet.proofs.Sheets.{held-of, sheet-stood}
-use Rattle.sheet.proofs.Repairs.{asked-fit, by-request}
+use Rattle.repairs.proofs.Repairs.{asked-fit, by-request}
 
 -- an answer of 0 or 5 to a load says that the field was taken, and then sheet and answer are those of the held text
 module _ (kind : ℕ) (s : List ℕ) (old : Sheet) where

@@ -25,16 +25,17 @@ use Rattle.checkdigit.proofs.Fill.{check-digits-ends}
 use Rattle.field.specs.Field.{admission, checkField}
 use Rattle.sheet.specs.Sheets.{sheetKind, heldText, characters, remainderBy, sheetOf, emptySheet, held, sameSheet}
 use Rattle.sheet.specs.Load.{refusal, summed, loadOf, standing}
-use Rattle.sheet.specs.declared.Request.{Request}
-use Rattle.sheet.specs.Repairs.{digitsPlace, filled, asked, placeStep, givenSteps, requestSteps, sheetStep, repairBy, repairOf}
-use Rattle.sheet.specs.declared.Request.the-variants.{Replace, Exchange, Fill}
+use Rattle.repairs.specs.declared.Request.{Request}
+use Rattle.sheet.specs.Sheets.{digitsPlace}
+use Rattle.repairs.specs.Repairs.{filled, asked, placeStep, givenSteps, requestSteps, sheetStep, repairBy, repairOf}
+use Rattle.repairs.specs.declared.Request.the-variants.{Replace, Exchange, Fill}
 use Rattle.sheet_promises.specs.Calls.{callsAfter, Checked, freshly, checkedBy, textsAfter, heldBack, Elsewhere}
 use Rattle.sheet.specs.declared.Sheet.{Sheet}
 use Rattle.sheet.specs.declared.Repaired.{Repaired}
 use Rattle.sheet.proofs.Fits.{Fit, fit-few}
 use Rattle.sheet.proofs.Loads.{load-fit, summed-passes, passes-summed, fresh-summed}
 use Rattle.sheet.proofs.Sheets.{Stood, stood, stands, empty-falls, by-own, stood-size, sheet-stood, same-sheet, sheet-same}
-use Rattle.sheet.proofs.Repairs.{asked-fit, by-request, fit-filled, text-passes, sheet-passed}
+use Rattle.repairs.proofs.Repairs.{asked-fit, by-request, fit-filled, text-passes, sheet-passed}
 use Rattle.sheet_promises.proofs.Calls.{took, fresh-value, call-is, told-fit, not-twenty, accepted-one, one-accepted, slipped, traded, filled-remainder}
 
 -- A load answers 0 or 5 exactly where the field is admitted and passes every step of its rule but the remainder.

@@ -25,9 +25,9 @@ use Rattle.lei.specs.Lei.{leiCharacters, leiAnswer}
 use Rattle.field.specs.Field.{admission, ruleOf, checkField}
 use Rattle.sheet.specs.Sheets.{heldText, characters, remainderBy, sheetOf, emptySheet, held, sameSheet}
 use Rattle.sheet.specs.Load.{summed, loadOf, standing}
-use Rattle.sheet.specs.declared.Request.{Request}
-use Rattle.sheet.specs.Repairs.{filled, asked, placeStep, byteStep, textStep, givenSteps, requestSteps, sheetStep, repairBy, repairOf}
-use Rattle.sheet.specs.declared.Request.the-variants.{Replace, Exchange, Fill}
+use Rattle.repairs.specs.declared.Request.{Request}
+use Rattle.repairs.specs.Repairs.{filled, asked, placeStep, byteStep, textStep, givenSteps, requestSteps, sheetStep, repairBy, repairOf}
+use Rattle.repairs.specs.declared.Request.the-variants.{Replace, Exchange, Fill}
 use Rattle.sheet_promises.specs.Calls.{callsAfter}
 use Rattle.sheet.specs.declared.Sheet.{Sheet}
 use Rattle.sheet.specs.declared.Repaired.{Repaired}

@@ -8,9 +8,10 @@ use Rattle.answer.specs.declared.Step.{Step}
 use Rattle.answer.specs.declared.Step.the-variants.{Pass, Stop}
 use Rattle.field.specs.Field.{checkField}
 use Rattle.sheet.specs.Sheets.{sheetOf}
-use Rattle.sheet.specs.declared.Request.{Request}
-use Rattle.sheet.specs.Repairs.{digitsPlace, asked, requestSteps, repairOf}
-use Rattle.sheet.specs.declared.Request.the-variants.{Replace, Exchange, Fill}
+use Rattle.repairs.specs.declared.Request.{Request}
+use Rattle.sheet.specs.Sheets.{digitsPlace}
+use Rattle.repairs.specs.Repairs.{asked, requestSteps, repairOf}
+use Rattle.repairs.specs.declared.Request.the-variants.{Replace, Exchange, Fill}
 use Rattle.sheet.specs.declared.Repaired.{Repaired}
 
 -- each request is made of the sheet that the call before it returned

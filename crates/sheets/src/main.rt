@@ -41,23 +41,23 @@ fn show(call: &[u8], r: Repaired) -> Sheet {
 fn ibans() {
     let good = b"GB82 WEST 1234 5698 7654 32";
     let s = show(b"load", sheet::load(1, good, sheet::empty()));
-    let a = show(b"replace", sheet::replace(s, 21, b'3'));
-    let b = show(b"exchange", sheet::exchange(s, 20, 21));
-    show(b"exchange", sheet::exchange(b, 21, 20));
-    show(b"exchange", sheet::exchange(s, 7, 7));
-    show(b"fill", sheet::fill(a));
-    show(b"replace", sheet::replace(s, 22, b' '));
-    show(b"exchange", sheet::exchange(s, 21, 99));
-    show(b"replace", sheet::replace(s, 5, b' '));
-    show(b"replace", sheet::replace(s, 1, b'b'));
-    show(b"exchange", sheet::exchange(s, 4, 2));
+    let a = show(b"replace", repairs::replace(s, 21, b'3'));
+    let b = show(b"exchange", repairs::exchange(s, 20, 21));
+    show(b"exchange", repairs::exchange(b, 21, 20));
+    show(b"exchange", repairs::exchange(s, 7, 7));
+    show(b"fill", repairs::fill(a));
+    show(b"replace", repairs::replace(s, 22, b' '));
+    show(b"exchange", repairs::exchange(s, 21, 99));
+    show(b"replace", repairs::replace(s, 5, b' '));
+    show(b"replace", repairs::replace(s, 1, b'b'));
+    show(b"exchange", repairs::exchange(s, 4, 2));
     show(b"load", sheet::load(1, b"GB82 WEST!", s));
     show(b"load", sheet::load(3, b"DEUTDEFF", s));
 }
 
 fn exchange_passes() {
     let s = show(b"load", sheet::load(1, b"AA851B", sheet::empty()));
-    show(b"exchange", sheet::exchange(s, 4, 5));
+    show(b"exchange", repairs::exchange(s, 4, 5));
 }
 
 fn leis() {
@@ -65,9 +65,9 @@ fn leis() {
         b"load",
         sheet::load(2, b"7ZW8QJWVPR4P1S5PX089", sheet::empty()),
     );
-    let f = show(b"fill", sheet::fill(s));
-    show(b"replace", sheet::replace(f, 19, b'X'));
-    show(b"exchange", sheet::exchange(f, 0, 3));
+    let f = show(b"fill", repairs::fill(s));
+    show(b"replace", repairs::replace(f, 19, b'X'));
+    show(b"exchange", repairs::exchange(f, 0, 3));
 }
 
 // Sheets that no load gives: the empty one, another remainder, a byte past the length, a length above the bytes.
@@ -76,28 +76,28 @@ fn forged() {
     let text = s.text;
     let mut past = text;
     past[5] = b'A';
-    show(b"fill", sheet::fill(sheet::empty()));
+    show(b"fill", repairs::fill(sheet::empty()));
     let rest = Sheet {
         kind: 1,
         length: 5,
         remainder: 2,
         text,
     };
-    show(b"replace", sheet::replace(rest, 0, b'B'));
+    show(b"replace", repairs::replace(rest, 0, b'B'));
     let longer = Sheet {
         kind: 1,
         length: 5,
         remainder: 1,
         text: past,
     };
-    show(b"exchange", sheet::exchange(longer, 0, 1));
+    show(b"exchange", repairs::exchange(longer, 0, 1));
     let beyond = Sheet {
         kind: 1,
         length: 99,
         remainder: 1,
         text,
     };
-    show(b"fill", sheet::fill(beyond));
+    show(b"fill", repairs::fill(beyond));
 }
 
 fn main() {

@@ -2,7 +2,7 @@
 use Prim.Native.Nat.{ℕ}
 use mathlib.Core.List.{List}
 use Rattle.sheet.specs.Load.{loadOf}
-use Rattle.sheet.specs.Repairs.{repairOf}
+use Rattle.repairs.specs.Repairs.{repairOf}
 use Rattle.sheet.specs.declared.Sheet.{Sheet}
 use Rattle.sheet.specs.declared.Repaired.{Repaired}
 use Rattle.stitchbarrow.specs.declared.Call.{Call}

@@ -4,8 +4,8 @@ ghost use mathlib.Core.List.{_++_};
 ghost use Prim.Native.Nat.{_≤_};
 ghost use lib.ListN.{length, drop};
 ghost use Rattle.sheet.specs.Load.{loadOf};
-ghost use Rattle.sheet.specs.Repairs.{repairOf};
-ghost use Rattle.sheet.specs.declared.Request.{Request};
+ghost use Rattle.repairs.specs.Repairs.{repairOf};
+ghost use Rattle.repairs.specs.declared.Request.{Request};
 ghost use Rattle.stitchbarrow.specs.Sheets.{sheetSize, sheetAt, sheetBytes};
 ghost use Rattle.stitchbarrow.specs.Reply.{
   answerSize,
@@ -19,8 +19,8 @@ ghost use Rattle.stitchbarrow.specs.Reply.{
 };
 ghost use Rattle.stitchbarrow.specs.Inner.{madeOf};
 use answer::Answer;
+use repairs::Request;
 use sheet::Repaired;
-use sheet::Request;
 use sheet::Sheet;
 
 // What is asked of a sheet: to load a field of a kind, or to be repaired.
@@ -113,7 +113,7 @@ fn made(call: Call, value: &[u8], old: Sheet) -> Repaired
 {
     match call {
         Call::Load { kind } => sheet::load(kind, value, old),
-        Call::Repair { request } => sheet::repair(old, request),
+        Call::Repair { request } => repairs::repair(old, request),
     }
 }
 

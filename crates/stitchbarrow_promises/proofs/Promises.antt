@@ -9,8 +9,8 @@ use Rattle.iban.specs.Format.{padded}
 use Rattle.record.specs.Number.{Bytes}
 use Rattle.sheet.specs.Sheets.{emptySheet}
 use Rattle.sheet.specs.Load.{summed, loadOf, standing}
-use Rattle.sheet.specs.declared.Request.{Request}
-use Rattle.sheet.specs.Repairs.{repairOf}
+use Rattle.repairs.specs.declared.Request.{Request}
+use Rattle.repairs.specs.Repairs.{repairOf}
 use Rattle.sheet_promises.specs.Calls.{callsAfter}
 use Rattle.sheet.specs.declared.Sheet.{Sheet}
 use Rattle.sheet.specs.declared.Repaired.{Repaired}

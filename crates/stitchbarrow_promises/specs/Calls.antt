@@ -1,7 +1,7 @@
 -- Calls one after the other on the same two slices: each reads the bytes that the one before it left.
 use mathlib.Core.List.{List, [], _∷_}
-use Rattle.sheet.specs.declared.Request.{Request}
-use Rattle.sheet.specs.Repairs.{repairOf}
+use Rattle.repairs.specs.declared.Request.{Request}
+use Rattle.repairs.specs.Repairs.{repairOf}
 use Rattle.stitchbarrow.specs.Sheets.{sheetAt}
 use Rattle.stitchbarrow.specs.Reply.{SheetReply, sheetReply}
 

@@ -1,3 +1,0 @@
--- The laws and theorems of `judge`.
-pub mod Laws
-pub mod Promises

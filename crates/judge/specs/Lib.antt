@@ -1,3 +1,0 @@
--- The definitions that the contracts of `judge` cite.
-pub mod Run
-pub mod Inner

@@ -1,0 +1,2 @@
+-- The laws of `repairs`.
+pub mod Repairs

@@ -1,0 +1,3 @@
+-- The definitions that the contracts of `repairs` cite.
+pub mod Repairs
+pub mod Inner

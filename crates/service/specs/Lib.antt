@@ -1,0 +1,3 @@
+-- The definitions that the contracts of `service` cite.
+pub mod Run
+pub mod Inner
