@@ -7,9 +7,9 @@ use Rattle.answer.specs.declared.Step.{Step}
 use Rattle.answer.specs.declared.Step.the-variants.{Pass, Stop}
 use Rattle.checkdigit.specs.Sum.{exchanged}
 use Rattle.checkdigit.specs.Fill.{checkDigits, stamped}
-use Rattle.sheet.specs.Sheets.{remainderBy}
+use Rattle.sheet.specs.Sheets.{remainderBy, digitsPlace}
 use Rattle.sheet.specs.Load.{refusal, loadOf}
-use Rattle.repairs.specs.Repairs.{digitsPlace, givenSteps, sheetStep}
+use Rattle.repairs.specs.Repairs.{givenSteps, sheetStep}
 use Rattle.repairs.specs.declared.Request.{Request}
 use Rattle.repairs.specs.declared.Request.the-variants.{Replace, Exchange, Fill}
 use Rattle.sheet.specs.declared.Sheet.{Sheet}
