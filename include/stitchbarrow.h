@@ -35,7 +35,7 @@ uint8_t stitchbarrow_check(uint16_t kind, const uint8_t *value, size_t value_len
 /* Judges the records of a batch whose first byte has this stream offset, at most `budget` of them. Writes 24 bytes to `out` for each
  * judged record, one after the other, and no others; writes records judged, bytes read and bytes written to the first three elements of
  * `counts`, at every stop; returns the stop: 0 no bytes left, 31 budget spent, 32 no room in `out`, 33 a record cut short, 34 offset plus
- * length is 2^64 or more (counts 0), 35 a length above 4,096. To go on after 31 or 32, call again with the bytes from `read` on and the
+ * length is 2^64 or more (counts 0), 35 a length above 8,192. To go on after 31 or 32, call again with the bytes from `read` on and the
  * offset moved by as much. 255: `counts` has fewer than 3 elements, and nothing is written; a short `out` is stop 32. */
 uint8_t stitchbarrow_run(const uint8_t *batch, size_t batch_len, uint64_t offset, uint8_t *out, size_t out_len, uint64_t budget,
                          uint64_t *counts, size_t counts_len);

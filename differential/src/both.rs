@@ -6,7 +6,7 @@ use crate::schemes::common;
 pub type Verdict = Option<u64>;
 
 /// The longest field that the comparison speaks of.
-pub const LIMIT: usize = 1024;
+pub const LIMIT: usize = 4096;
 
 fn passes(rule: &dyn Rule, value: &str) -> Verdict {
     rule.validate(value, "").is_empty().then_some(0)

@@ -195,23 +195,26 @@ pub fn damaged(mut field: Vec<u8>, n: &mut Numbers) -> Vec<u8> {
 }
 
 /// Lengths at which something changes.
-pub const LENGTHS: [usize; 24] = [0, 1, 2, 3, 4, 5, 7, 8, 9, 10, 11, 12, 18, 19, 20, 21, 23, 24, 33, 34, 35, 1022, 1023, 1024];
+pub const LENGTHS: [usize; 25] = [0, 1, 2, 3, 4, 5, 7, 8, 9, 10, 11, 12, 18, 19, 20, 21, 23, 24, 33, 34, 35, 1024, 1025, 4095, 4096];
 
-/// Fields of every boundary length, of one byte repeated, and valid ones stretched with what a kind lets be stretched.
+/// A likely field, made as long as this with what its kind lets be stretched: an IBAN's blanks, a fraction's digits, zeros in front.
+pub fn stretched(kind: u16, length: usize, n: &mut Numbers) -> Vec<u8> {
+    let mut field = likely(kind, n);
+    let (at, byte) = match kind {
+        1 => (n.below(field.len() + 1), b' '),
+        5 => (20.min(field.len()), b'7'),
+        _ => (0, b'0'),
+    };
+    field.splice(at..at, std::iter::repeat(byte).take(length.saturating_sub(field.len())));
+    field
+}
+
+/// Fields of every boundary length: of one byte repeated, and likely ones stretched.
 pub fn boundaries(kind: u16, n: &mut Numbers, ask: &mut dyn FnMut(&[u8])) {
     for length in LENGTHS {
         for byte in [b'0', b'1', b'9', b'A', b'Z', b'a', b' ', b'.', b'+', 0, 0x7F, 0xC2, 0xFF] {
             ask(&vec![byte; length]);
         }
-        let mut field = likely(kind, n);
-        let stretch = length.saturating_sub(field.len());
-        let (at, byte) = match kind {
-            1 => (n.below(field.len() + 1), b' '),
-            5 => (20.min(field.len()), b'7'),
-            _ => (0, b'0'),
-        };
-        field.splice(at..at, std::iter::repeat(byte).take(stretch));
-        field.truncate(1024);
-        ask(&field);
+        ask(&stretched(kind, length, n));
     }
 }

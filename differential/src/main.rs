@@ -5,7 +5,7 @@ mod fields;
 include!(concat!(env!("OUT_DIR"), "/original.rs"));
 
 use both::{answer, original, ours, LIMIT};
-use fields::{boundaries, damaged, likely, short, Numbers};
+use fields::{boundaries, damaged, likely, short, stretched, Numbers};
 use std::io::{stdout, BufWriter, Write};
 
 /// Asks both sides, counts, and prints each difference with its bytes.
@@ -61,11 +61,16 @@ fn compare(seed: u64, count: u64) -> Tally {
     every_scalar(&mut tally);
     while tally.asked < count {
         let kind = 1 + (tally.asked % 10) as u16;
-        let mut field = likely(kind, &mut numbers);
+        let mut field = match numbers.below(64) {
+            0 => {
+                let length = numbers.below(LIMIT + 1);
+                stretched(kind, length, &mut numbers)
+            }
+            _ => likely(kind, &mut numbers),
+        };
         if numbers.below(2) == 0 {
             field = damaged(field, &mut numbers);
         }
-        field.truncate(LIMIT);
         tally.ask(kind, &field);
     }
     tally

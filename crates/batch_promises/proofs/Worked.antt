@@ -58,8 +58,8 @@ table =
     ∷ case (take 16 example) 0 24 2 (ran Cut 1 6 24 country)  -- cut before room
     ∷ case (take 3 example) 0 24 2 (stopped Cut (replicate 24 9))
     ∷ case example (2 ^ 64 - 17) 50 1 (stopped Offset (replicate 50 9))
-    ∷ case (0x01 ∷ 0x10 ∷ 0x07 ∷ 0x00 ∷ []) 0 24 1 (stopped Long (replicate 24 9))  -- a head of 4,097
-    ∷ case (0x00 ∷ 0x10 ∷ 0x07 ∷ 0x00 ∷ []) 0 24 1 (stopped Cut (replicate 24 9))  -- a head of 4,096
+    ∷ case (0x01 ∷ 0x20 ∷ 0x07 ∷ 0x00 ∷ []) 0 24 1 (stopped Long (replicate 24 9))  -- a head of 8,193
+    ∷ case (0x00 ∷ 0x20 ∷ 0x07 ∷ 0x00 ∷ []) 0 24 1 (stopped Cut (replicate 24 9))  -- a head of 8,192
     ∷ case [] 0 0 0 (stopped Finished [])
     ∷ []
 

@@ -23,7 +23,7 @@ use Rattle.common.specs.Cents.{parseAmountCents, parseAmountCentsLenient}
 
 -- the longest field that a rule is asked about
 abbrev pub fieldLimit : ℕ
-fieldLimit = 1024
+fieldLimit = 4096
 
 -- A line of the table of kinds: the kind's number, its rule, and whether it is exempt from the UTF-8 step, which a kind is whose value is bytes
 -- and not text.

@@ -7,7 +7,7 @@ use answer::Reason;
 use answer::Step;
 
 // The longest field that a rule is asked about.
-pub const FIELD_LIMIT: usize = 1024;
+pub const FIELD_LIMIT: usize = 4096;
 
 // The order in which the steps of a kind's check are asked. SCOPE's order for a field is 12, 11, 1, then the rule's steps; any order that gives
 // the same answers will do, and the quickest is taken.

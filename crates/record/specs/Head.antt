@@ -10,7 +10,7 @@ use Rattle.record.specs.declared.Head.the-variants.{End, Short, TooLong,
 
 -- the longest value that a head may announce
 abbrev pub headLimit : ℕ
-headLimit = 4096
+headLimit = 8192
 
 -- what stands at the start of a batch: no bytes; fewer than 4; a length above the limit; a value cut short; a whole record
 unfoldable pub headOf : List ℕ → Head

@@ -7,7 +7,7 @@ ghost use Rattle.record.specs.Number.{toBytes, fromBytes, littleAt};
 ghost use Rattle.record.specs.Head.{headOf};
 
 // The longest value that a head may announce.
-pub const HEAD_LIMIT: usize = 4096;
+pub const HEAD_LIMIT: usize = 8192;
 
 // What stands at the start of the rest of a batch: nothing, fewer bytes than a head has, a length above the limit, a value cut
 // short, or a whole record.

@@ -25,7 +25,7 @@ use Rattle.report.specs.Text.{field, numbersLine, verdictLine, verdictLines, he
 use Rattle.turn_promises.specs.Output.{outputOf}
 
 abbrev inputs : List (List ℕ)
-inputs = example ∷ [] ∷ take 16 example ∷ (example ++ (0x01 ∷ 0x10 ∷ 0x07 ∷ 0x00 ∷ [])) ∷ []
+inputs = example ∷ [] ∷ take 16 example ∷ (example ++ (0x01 ∷ 0x20 ∷ 0x07 ∷ 0x00 ∷ [])) ∷ []
 
 pub worked : map (λ (b : List ℕ). outputOf b 0) inputs
     ≡ bytesOf "offset kind answer place number\n0 7 0 0 0\n6 9 0 0 100050\nstop 0 judged 2 read 17\n"
