@@ -7,19 +7,19 @@ use native.Mathlib.Numerals.{add-one}
 use lib.ListN.{length, get_or, drop, drop_of_length-le}
 use lib.Seq.{drop-cons}
 use Rattle.text.specs.Ranges.{within}
-use Rattle.text.proofs.Ranges.{is_false, within-yes, within-ends}
-use Rattle.amount.specs.Amount.{allZero}
+use Rattle.text.proofs.Ranges.{is_false, within_yes, within-ends}
+use Rattle.amount.specs.Amount.{all_zero}
 
 module _ (s : List ℕ) (i : ℕ) where
-  pub zero-here : i < length s → 49 ≤ get_or s i 0 → get_or s i 0 ≤ 57 → false ≡ allZero (drop i s)
-  unfolding allZero
-  zero-here h low high = rw (drop-cons s i 0 h, within-yes 49 57 (get_or s i 0) low high)
+  pub zero_here : i < length s → 49 ≤ get_or s i 0 → get_or s i 0 ≤ 57 → false ≡ all_zero (drop i s)
+  unfolding all_zero
+  zero_here h low high = rw (drop-cons s i 0 h, within_yes 49 57 (get_or s i 0) low high)
 
-  pub zero-next : i < length s → (49 ≤ get_or s i 0 → get_or s i 0 ≤ 57 → ⊥) → allZero (drop i s) ≡ allZero (drop (i + 1) s)
-  unfolding allZero
-  zero-next h n =
+  pub zero_next : i < length s → (49 ≤ get_or s i 0 → get_or s i 0 ≤ 57 → ⊥) → all_zero (drop i s) ≡ all_zero (drop (i + 1) s)
+  unfolding all_zero
+  zero_next h n =
       rw (add-one i, drop-cons s i 0 h, is_false (within 49 57 (get_or s i 0)) (λ t. let e = within-ends 49 57 (get_or s i 0) t in n e.0 e.1))
 
-  pub zero-none : length s ≤ i → true ≡ allZero (drop i s)
-  unfolding allZero
-  zero-none h = rw (drop_of_length-le s h)
+  pub zero_none : length s ≤ i → true ≡ all_zero (drop i s)
+  unfolding all_zero
+  zero_none h = rw (drop_of_length-le s h)

@@ -1,12 +1,12 @@
 // Amounts, kind 6: one `+` or none, up to 18 digits, and after a `.` one to 5 more, not all of them zero.
 ghost use Rattle.std.specs.Prelude.{◌≡◌, ◌-◌, ◌<◌};
-ghost use Rattle.amount.specs.Amount.{start, at_most, part, fraction, noMinus, allZero, notZero, validateAmount};
+ghost use Rattle.amount.specs.Amount.{start, at_most, part, fraction, no_minus, all_zero, not_zero, validate_amount};
 
 use answer::{Answer, Reason, Step};
 use text::Set;
 
 fn no_minus(s: &[u8]) -> Step
-    ensures { result ≡ noMinus s.now }
+    ensures { result ≡ no_minus s.now }
 {
     if text::at(s, 0) == b'-' {
         Step::Stop(Reason::NotPositive, 602)
@@ -67,7 +67,7 @@ fn fraction(s: &[u8], dot: usize) -> Step
 }
 
 fn all_zero(s: &[u8]) -> bool
-    ensures { result ≡ allZero s.now }
+    ensures { result ≡ all_zero s.now }
 {
     let mut i = 0;
     while i < s.len() {
@@ -80,7 +80,7 @@ fn all_zero(s: &[u8]) -> bool
 }
 
 fn not_zero(s: &[u8]) -> Step
-    ensures { result ≡ notZero s.now }
+    ensures { result ≡ not_zero s.now }
 {
     if all_zero(s) {
         Step::Stop(Reason::NotPositive, 609)
@@ -90,7 +90,7 @@ fn not_zero(s: &[u8]) -> Step
 }
 
 pub fn validate_amount(s: &[u8]) -> Answer
-    ensures { result ≡ validateAmount s.now }
+    ensures { result ≡ validate_amount s.now }
 {
     let from = start(s);
     let dot = text::first_place(s, b'.');

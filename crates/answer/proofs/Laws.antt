@@ -9,43 +9,43 @@ use Rattle.answer.specs.declared.Answer.{Answer}
 use Rattle.answer.specs.declared.Answer.TheVariants.{Accepted, Refused}
 use Rattle.answer.specs.declared.Step.{Step}
 use Rattle.answer.specs.declared.Step.TheVariants.{Pass, Stop}
-use Rattle.answer.specs.Steps.{must, ◌andThen◌, ◌orAccept◌}
+use Rattle.answer.specs.Steps.{must, ◌and_then◌, ◌or_accept◌}
 
 pub then_is : {r a b a' b' : Step} → r ≡ a and_then b → a ≡ a' → b ≡ b' → r ≡ a' and_then b'
 then_is p q t = cc
 
-pub accept-is : {r : Answer} {a a' : Step} (n : ℕ) → r ≡ a orAccept n → a ≡ a' → r ≡ a' orAccept n
-accept-is n p q = cc
+pub accept_is : {r : Answer} {a a' : Step} (n : ℕ) → r ≡ a or_accept n → a ≡ a' → r ≡ a' or_accept n
+accept_is n p q = cc
 
 -- where a step stops, the whole chain stops with its reason
 pub stops : {a : Step} (r : Reason) (k : ℕ) (b : Step) → a ≡ Stop r k → a and_then b ≡ Stop r k
-unfolding ◌andThen◌
+unfolding ◌and_then◌
 stops r k b e = rw e
 
 -- where a step passes, the chain says what the next step says
 pub passes : {a : Step} (b : Step) → a ≡ Pass → a and_then b ≡ b
-unfolding ◌andThen◌
+unfolding ◌and_then◌
 passes b e = rw e
 
 -- a chain that passes passes at each step
-pub both-pass : (a b : Step) → a and_then b ≡ Pass → (a ≡ Pass) × (b ≡ Pass)
-unfolding ◌andThen◌
-both-pass Pass b e = (refl, e)
-both-pass (Stop r k) b e = let z : ◌≡◌ {A = ℕ} 0 1 = cc in absurd (omega arith)
+pub both_pass : (a b : Step) → a and_then b ≡ Pass → (a ≡ Pass) × (b ≡ Pass)
+unfolding ◌and_then◌
+both_pass Pass b e = (refl, e)
+both_pass (Stop r k) b e = let z : ◌≡◌ {A = ℕ} 0 1 = cc in absurd (omega arith)
 
 -- a rule that accepts has passed each step
-pub accepted-pass : (a : Step) (m n : ℕ) → a orAccept m ≡ Accepted n → a ≡ Pass
-unfolding ◌orAccept◌
-accepted-pass Pass m n e = refl
-accepted-pass (Stop r k) m n e = let z : ◌≡◌ {A = ℕ} 0 1 = cc in absurd (omega arith)
+pub accepted_pass : (a : Step) (m n : ℕ) → a or_accept m ≡ Accepted n → a ≡ Pass
+unfolding ◌or_accept◌
+accepted_pass Pass m n e = refl
+accepted_pass (Stop r k) m n e = let z : ◌≡◌ {A = ℕ} 0 1 = cc in absurd (omega arith)
 
 -- a test that let the chain pass held
-pub test-held : (t : Bool) (r : Reason) (k : ℕ) → must t r k ≡ Pass → T t
-test-held true r k e = tt
-test-held false r k e = let z : ◌≡◌ {A = ℕ} 0 1 = cc in absurd (omega arith)
+pub test_held : (t : Bool) (r : Reason) (k : ℕ) → must t r k ≡ Pass → T t
+test_held true r k e = tt
+test_held false r k e = let z : ◌≡◌ {A = ℕ} 0 1 = cc in absurd (omega arith)
 
 -- a chain may be cut anywhere
 pub regroup : (a b d : Step) → (a and_then b) and_then d ≡ a and_then (b and_then d)
-unfolding ◌andThen◌
+unfolding ◌and_then◌
 regroup Pass b d = refl
 regroup (Stop r k) b d = refl

@@ -3,7 +3,7 @@ use Prim.Native.Nat.{ℕ}
 use mathlib.Core.Path.{◌≡◌, refl, sym, ap, ◌∙◌}
 use lib.Dec.{eqb}
 use mathlib.Core.Bool.{cond}
-use Rattle.answer.specs.Table.{numbersOf, checkOf}
+use Rattle.answer.specs.Table.{numbers_of, check_of}
 use Rattle.answer.specs.declared.Numbers.{Numbers}
 use Rattle.answer.specs.declared.Reason.{Reason}
 use Rattle.answer.specs.declared.Reason.TheVariants.{NotUtf8, Length, Wrong, Range, Remainder, NotListed, NotPositive, Missing, TooLarge, Trailing, TooLong, UnknownKind, NoSheet, NoPlace, Unfit}
@@ -11,8 +11,8 @@ use Rattle.answer.specs.declared.Answer.{Answer}
 use Rattle.answer.specs.declared.Answer.TheVariants.{Accepted, Refused}
 
 -- the reason that a line of the table is the line of
-reasonOf : Numbers → Reason
-reasonOf l =
+reason_of : Numbers → Reason
+reason_of l =
     cond (eqb l.number 1) (NotUtf8 l.place)
     (cond (eqb l.number 2) (Length l.place l.value)
     (cond (eqb l.number 3) (Wrong l.place)
@@ -30,10 +30,10 @@ reasonOf l =
     (Unfit l.place))))))))))))))
 
 answer_of : Numbers → ℕ → Answer
-answer_of n k = cond (eqb n.number 0) (Accepted n.value) (Refused (reasonOf n) k)
+answer_of n k = cond (eqb n.number 0) (Accepted n.value) (Refused (reason_of n) k)
 
-back : (a : Answer) → answer_of (numbersOf a) (checkOf a) ≡ a
-unfolding answer_of reasonOf
+back : (a : Answer) → answer_of (numbers_of a) (check_of a) ≡ a
+unfolding answer_of reason_of
 back (Accepted n) = refl
 back (Refused (NotUtf8 p) k) = refl
 back (Refused (Length p n) k) = refl
@@ -51,5 +51,5 @@ back (Refused NoSheet k) = refl
 back (Refused (NoPlace n) k) = refl
 back (Refused (Unfit p) k) = refl
 
-pub equal-numbers : (a b : Answer) → numbersOf a ≡ numbersOf b → checkOf a ≡ checkOf b → a ≡ b
-equal-numbers a b e f = sym (back a) ∙ ap (λ n. answer_of n (checkOf a)) e ∙ ap (answer_of (numbersOf b)) f ∙ back b
+pub equal_numbers : (a b : Answer) → numbers_of a ≡ numbers_of b → check_of a ≡ check_of b → a ≡ b
+equal_numbers a b e f = sym (back a) ∙ ap (λ n. answer_of n (check_of a)) e ∙ ap (answer_of (numbers_of b)) f ∙ back b

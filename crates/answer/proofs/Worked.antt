@@ -2,8 +2,8 @@
 use mathlib.Core.Path.{◌≡◌, refl}
 use mathlib.Core.Bool.{true, false}
 use mathlib.Core.List.{List, [], ◌∷◌, map}
-use Rattle.answer.specs.Table.{row, numbersOf, checkOf}
-use Rattle.answer.specs.Steps.{must, ◌andThen◌, ◌orAccept◌}
+use Rattle.answer.specs.Table.{row, numbers_of, check_of}
+use Rattle.answer.specs.Steps.{must, ◌and_then◌, ◌or_accept◌}
 use Rattle.answer.specs.declared.Reason.TheVariants.{Wrong, Range, Remainder, NotListed, Missing}
 use Rattle.answer.specs.declared.Answer.{Answer}
 use Rattle.answer.specs.declared.Answer.TheVariants.{Accepted, Refused}
@@ -15,14 +15,14 @@ examples =
     Accepted 100050
     ∷ Refused (Remainder 28) 107
     ∷ Refused (Range 17 60) 518
-    ∷ (Pass and_then must true (Missing 0) 601 and_then must false (Wrong 3) 605 and_then Stop NotListed 705 orAccept 0)
-    ∷ (Pass and_then must true NotListed 705 orAccept 7)
+    ∷ (Pass and_then must true (Missing 0) 601 and_then must false (Wrong 3) 605 and_then Stop NotListed 705 or_accept 0)
+    ∷ (Pass and_then must true NotListed 705 or_accept 7)
     ∷ []
 
-pub worked : map numbersOf examples ≡ row 0 0 100050 ∷ row 5 0 28 ∷ row 4 17 60 ∷ row 3 3 0 ∷ row 0 0 7 ∷ []
-unfolding ◌andThen◌ ◌orAccept◌
+pub worked : map numbers_of examples ≡ row 0 0 100050 ∷ row 5 0 28 ∷ row 4 17 60 ∷ row 3 3 0 ∷ row 0 0 7 ∷ []
+unfolding ◌and_then◌ ◌or_accept◌
 worked = refl
 
-pub checks : map checkOf examples ≡ 0 ∷ 107 ∷ 518 ∷ 605 ∷ 0 ∷ []
-unfolding ◌andThen◌ ◌orAccept◌
+pub checks : map check_of examples ≡ 0 ∷ 107 ∷ 518 ∷ 605 ∷ 0 ∷ []
+unfolding ◌and_then◌ ◌or_accept◌
 checks = refl

@@ -16,13 +16,13 @@ must true r k = Pass
 must false r k = Stop r k
 
 -- the second step where the first passes
-infixl 6 ◌andThen◌
-unfoldable pub ◌andThen◌ : Step → Step → Step
-◌andThen◌ Pass t = t
-◌andThen◌ (Stop r k) t = Stop r k
+infixl 6 ◌and_then◌
+unfoldable pub ◌and_then◌ : Step → Step → Step
+◌and_then◌ Pass t = t
+◌and_then◌ (Stop r k) t = Stop r k
 
 -- the answer of a rule whose steps these were
-infixl 5 ◌orAccept◌
-unfoldable pub ◌orAccept◌ : Step → ℕ → Answer
-◌orAccept◌ Pass n = Accepted n
-◌orAccept◌ (Stop r k) n = Refused r k
+infixl 5 ◌or_accept◌
+unfoldable pub ◌or_accept◌ : Step → ℕ → Answer
+◌or_accept◌ Pass n = Accepted n
+◌or_accept◌ (Stop r k) n = Refused r k

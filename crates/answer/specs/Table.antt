@@ -44,20 +44,20 @@ row_of (NoPlace i) = row 21 0 i  -- a place is not below the length; number the 
 row_of (Unfit p) = row 22 p 0  -- the new text would break a character step; place the first character that breaks it
 
 -- an answer's three numbers: acceptance has number 0 and its own number as the value
-abbrev pub numbersOf : Answer → Numbers
-numbersOf (Accepted n) = row 0 0 n
-numbersOf (Refused r k) = row_of r
+abbrev pub numbers_of : Answer → Numbers
+numbers_of (Accepted n) = row 0 0 n
+numbers_of (Refused r k) = row_of r
 
 abbrev pub number_of : Answer → ℕ
-number_of a = (numbersOf a).number
+number_of a = (numbers_of a).number
 
 abbrev pub place_of : Answer → ℕ
-place_of a = (numbersOf a).place
+place_of a = (numbers_of a).place
 
 abbrev pub value_of : Answer → ℕ
-value_of a = (numbersOf a).value
+value_of a = (numbers_of a).value
 
 -- the check number of the step that refused, and 0 for acceptance
-abbrev pub checkOf : Answer → ℕ
-checkOf (Accepted n) = 0
-checkOf (Refused r k) = k
+abbrev pub check_of : Answer → ℕ
+check_of (Accepted n) = 0
+check_of (Refused r k) = k

@@ -1,7 +1,7 @@
 // What a check of a field answers: acceptance with a number, or a refusal with its reason and the step that gave it.
 ghost use Rattle.std.specs.Prelude.{◌≡◌};
-ghost use Rattle.answer.specs.Table.{row, row_of, numbersOf, number_of, place_of, value_of, checkOf};
-ghost use Rattle.answer.specs.Steps.{◌andThen◌, ◌orAccept◌};
+ghost use Rattle.answer.specs.Table.{row, row_of, numbers_of, number_of, place_of, value_of, check_of};
+ghost use Rattle.answer.specs.Steps.{◌and_then◌, ◌or_accept◌};
 
 // One case for each refusal of SCOPE's answer table, with the place and the number that it can have, and nothing else.
 #[derive(Drop)]
@@ -84,7 +84,7 @@ impl Reason {
 impl Answer {
     // Acceptance has number 0 and its own number as the value; a refusal has its reason's row.
     pub fn numbers(self) -> Numbers
-        ensures { result ≡ numbersOf self }
+        ensures { result ≡ numbers_of self }
     {
         match self {
             Answer::Accepted(n) => row(0, 0, n),
@@ -115,7 +115,7 @@ impl Answer {
 
     // The check number of the step that refused (docs/CHECKS.md), and 0 for acceptance.
     pub fn check(self) -> u32
-        ensures { result ≡ checkOf self }
+        ensures { result ≡ check_of self }
     {
         match self {
             Answer::Accepted(_) => 0,
@@ -137,7 +137,7 @@ impl Step {
 
     // A rule's answer: accepted with n where all its steps passed, else the refusal of the step that stopped.
     pub fn or_accept(self, n: u64) -> Answer
-        ensures { result ≡ self orAccept n }
+        ensures { result ≡ self or_accept n }
     {
         match self {
             Step::Pass => Answer::Accepted(n),

@@ -8,8 +8,8 @@ use borrow.Author.Tests.{ltb-true, ltb-false, eqb-true, eqb-false, ne_eqb, le-lt
 use Rattle.record.specs.declared.Head.{Head}
 use Rattle.record.specs.declared.Head.TheVariants.{End, Short, TooLong, CutShort, Record}
 use Rattle.record.proofs.Heads.{stands}
-use Rattle.verdict.specs.Verdict.{verdictSize}
-use Rattle.batch.specs.Walk.{end_of, unlessSpent, next_of}
+use Rattle.verdict.specs.Verdict.{verdict_size}
+use Rattle.batch.specs.Walk.{end_of, unless_spent, next_of}
 use Rattle.batch.specs.declared.Stop.{Stop}
 use Rattle.batch.specs.declared.Stop.TheVariants.{Finished, Budget, Room, Cut, Offset, Long}
 use Rattle.batch.specs.declared.Act.{Act}
@@ -18,14 +18,14 @@ use Rattle.batch.specs.declared.Act.TheVariants.{Stops, Judges}
 -- a turn that judges: a whole record, room for its verdict, and budget
 pub record Judged (h : Head) (room budget k n : ℕ) : Type 0 where
   pub head : h ≡ Record k n
-  pub space : verdictSize ≤ room
+  pub space : verdict_size ≤ room
   pub left : 0 < budget
 
 -- a turn that stops, by why
 abbrev pub Stopping : Head → ℕ → ℕ → Stop → Type 0
 Stopping h room budget Finished = (stands h ≡ false) × (end_of h ≡ Finished)
 Stopping h room budget Budget = budget ≡ 0
-Stopping h room budget Room = (stands h ≡ true) × (room < verdictSize)
+Stopping h room budget Room = (stands h ≡ true) × (room < verdict_size)
 Stopping h room budget Cut = (stands h ≡ false) × (end_of h ≡ Cut)
 Stopping h room budget Offset = ⊥
 Stopping h room budget Long = (stands h ≡ false) × (end_of h ≡ Long)
@@ -34,7 +34,7 @@ abbrev pub Said : Head → ℕ → ℕ → Act → Type 0
 Said h room budget (Stops s) = Stopping h room budget s
 Said h room budget (Judges k n) = Judged h room budget k n
 
-unless : (h : Head) (room budget : ℕ) (t : Act) → (0 < budget → Said h room budget t) → Said h room budget (unlessSpent budget t)
+unless : (h : Head) (room budget : ℕ) (t : Act) → (0 < budget → Said h room budget t) → Said h room budget (unless_spent budget t)
 unless h room budget t f = go (eqb budget 0) refl
   where
     go : (b : Bool) → eqb budget 0 ≡ b → Said h room budget (cond b (Stops Budget) t)
@@ -49,11 +49,11 @@ said Short room budget = unless Short room budget (Stops Cut) (λ b. (refl, refl
 said TooLong room budget = unless TooLong room budget (Stops Long) (λ b. (refl, refl))
 said CutShort room budget = unless CutShort room budget (Stops Cut) (λ b. (refl, refl))
 said (Record k n) room budget =
-    unless (Record k n) room budget (cond (ltb room verdictSize) (Stops Room) (Judges k n)) (λ b. go b (ltb room verdictSize) refl)
+    unless (Record k n) room budget (cond (ltb room verdict_size) (Stops Room) (Judges k n)) (λ b. go b (ltb room verdict_size) refl)
   where
-    go : 0 < budget → (t : Bool) → ltb room verdictSize ≡ t → Said (Record k n) room budget (cond t (Stops Room) (Judges k n))
-    go b true e = (refl, ltb-true room verdictSize e)
-    go b false e = record { head = refl; space = ltb-false room verdictSize e; left = b }
+    go : 0 < budget → (t : Bool) → ltb room verdict_size ≡ t → Said (Record k n) room budget (cond t (Stops Room) (Judges k n))
+    go b true e = (refl, ltb-true room verdict_size e)
+    go b false e = record { head = refl; space = ltb-false room verdict_size e; left = b }
 
 pub judged : (h : Head) (room budget k n : ℕ) → next_of h room budget ≡ Judges k n → Judged h room budget k n
 judged h room budget k n e = subst (Said h room budget) e (said h room budget)
@@ -62,6 +62,6 @@ pub stopping : (h : Head) (room budget : ℕ) (s : Stop) → next_of h room budg
 stopping h room budget s e = subst (Said h room budget) e (said h room budget)
 
 -- a whole record is judged where there is room and budget
-pub judges : (room budget k n : ℕ) → verdictSize ≤ room → 0 < budget → next_of (Record k n) room budget ≡ Judges k n
+pub judges : (room budget k n : ℕ) → verdict_size ≤ room → 0 < budget → next_of (Record k n) room budget ≡ Judges k n
 unfolding next_of
-judges room budget k n space left = simp (ne_eqb budget 0 (omega arith), le-ltb room verdictSize space)
+judges room budget k n space left = simp (ne_eqb budget 0 (omega arith), le-ltb room verdict_size space)

@@ -4,25 +4,25 @@ use mathlib.Core.Path.{◌≡◌, refl, sym, ap, ◌∙◌}
 use mathlib.Core.Bool.{true}
 use mathlib.Core.List.{List, ◌++◌, append_assoc}
 use native.Mathlib.Omega.{arith}
-use native.Mathlib.Nat.{add-zero, zero-add, sub-zero, add_assoc, sub-add-eq, add-sub_cancel_left}
+use native.Mathlib.Nat.{add-zero, zero-add, sub_zero, add_assoc, sub-add-eq, add-sub_cancel_left}
 use native.Mathlib.Numerals.{sub-one}
 use lib.Dec.{leb}
 use lib.ListN.{length, take, drop, take-append-drop, length-drop, length-append}
 use lib.Seq.{drop-drop, take_at, drop_at, length-take-le}
 use borrow.Author.Tests.{lt-leb}
 use Rattle.record.specs.Head.{head_of}
-use Rattle.record.specs.Records.{recordAt}
+use Rattle.record.specs.Records.{record_at}
 use Rattle.record.proofs.Heads.{Whole, whole}
-use Rattle.verdict.specs.Verdict.{verdictSize}
-use Rattle.batch.specs.Verdicts.{verdictOf}
+use Rattle.verdict.specs.Verdict.{verdict_size}
+use Rattle.batch.specs.Verdicts.{verdict_of}
 use Rattle.batch.specs.Walk.{next_of, stopped, ahead, walk, call_of}
-use Rattle.batch.specs.Inner.{actOut}
+use Rattle.batch.specs.Inner.{act_out}
 use Rattle.batch.specs.declared.Stop.{Stop}
 use Rattle.batch.specs.declared.Stop.TheVariants.{Offset}
 use Rattle.batch.specs.declared.Act.{Act}
 use Rattle.batch.specs.declared.Act.TheVariants.{Stops, Judges}
 use Rattle.batch.proofs.Acts.{Judged, judged}
-use Rattle.batch.proofs.Verdicts.{length-verdictOf}
+use Rattle.batch.proofs.Verdicts.{length-verdict_of}
 
 pub walk-stop : (b : ℕ) (batch : List ℕ) (offset : ℕ) (out : List ℕ) (s : Stop)
     → next_of (head_of batch) (length out) b ≡ Stops s → walk b batch offset out ≡ stopped s out
@@ -33,7 +33,7 @@ walk-stop (suc b) batch offset out s e = simp e
 pub walk-judged : (b : ℕ) (batch : List ℕ) (offset : ℕ) (out : List ℕ) (k n : ℕ)
     → next_of (head_of batch) (length out) b ≡ Judges k n
     → walk b batch offset out
-    ≡ ahead 1 (4 + n) verdictSize (verdictOf (recordAt batch offset k n)) (walk (b - 1) (drop (4 + n) batch) (offset + (4 + n)) (drop verdictSize out))
+    ≡ ahead 1 (4 + n) verdict_size (verdict_of (record_at batch offset k n)) (walk (b - 1) (drop (4 + n) batch) (offset + (4 + n)) (drop verdict_size out))
 unfolding walk
 walk-judged zero batch offset out k n e = absurd (omega (arith, (judged (head_of batch) (length out) 0 k n e).left))
 walk-judged (suc b) batch offset out k n e = simp (e, sub-one)
@@ -62,11 +62,11 @@ pub record Going (batch : List ℕ) (offset : ℕ) (out₀ : List ℕ) (budget :
 
 pub start : (batch : List ℕ) (offset : ℕ) (out : List ℕ) (budget : ℕ) → Going batch offset out budget out 0 0 0
 start batch offset out budget =
-    record { spent = omega arith; inside = omega arith; room = omega arith; same = refl; rest = simp (zero-add, add-zero, sub-zero) }
+    record { spent = omega arith; inside = omega arith; room = omega arith; same = refl; rest = simp (zero-add, add-zero, sub_zero) }
 
 -- one turn of the loop, from what `judge_next` ensures of its result and of the output
 module _ (batch : List ℕ) (offset : ℕ) (out₀ : List ℕ) (budget : ℕ) (out : List ℕ) (done at w : ℕ) (g : Going batch offset out₀ budget out done at w)
-    (r : Act) (last : List ℕ) (q : (r ≡ next_of (head_of (drop at batch)) (length out - w) (budget - done)) × (last ≡ take w out ++ actOut r (drop at batch) (offset + at) (drop w out))) where
+    (r : Act) (last : List ℕ) (q : (r ≡ next_of (head_of (drop at batch)) (length out - w) (budget - done)) × (last ≡ take w out ++ act_out r (drop at batch) (offset + at) (drop w out))) where
   told : next_of (head_of (drop at batch)) (length (drop w out)) (budget - done) ≡ r
   told = rw length-drop (sym q.0)
 
@@ -84,24 +84,24 @@ module _ (batch : List ℕ) (offset : ℕ) (out₀ : List ℕ) (budget : ℕ) (o
   pub fits : (k n : ℕ) → r ≡ Judges k n → Whole (drop at batch) k n
   fits k n e = whole _ _ _ (may k n e).head
 
-  pub again : (k n : ℕ) → r ≡ Judges k n → Going batch offset out₀ budget last (done + 1) (at + (4 + n)) (w + verdictSize)
+  pub again : (k n : ℕ) → r ≡ Judges k n → Going batch offset out₀ budget last (done + 1) (at + (4 + n)) (w + verdict_size)
   again k n e =
       let h = may k n e in
       let f = fits k n e in
-      let v : List ℕ = verdictOf (recordAt (drop at batch) (offset + at) k n) in
-      let d : List ℕ = drop verdictSize (drop w out) in
+      let v : List ℕ = verdict_of (record_at (drop at batch) (offset + at) k n) in
+      let d : List ℕ = drop verdict_size (drop w out) in
       let p : List ℕ = take w out ++ v in
-      let lp : length p ≡ w + verdictSize =
-      omega (arith, length-append (take w out) v, length-take-le w out g.room, length-verdictOf (recordAt (drop at batch) (offset + at) k n)) in
+      let lp : length p ≡ w + verdict_size =
+      omega (arith, length-append (take w out) v, length-take-le w out g.room, length-verdict_of (record_at (drop at batch) (offset + at) k n)) in
       let o : last ≡ p ++ d = q.1 ∙ simp (e, append_assoc) in
-      let ft : take (w + verdictSize) last ≡ p = ap (take (w + verdictSize)) o ∙ take_at p d (w + verdictSize) lp in
-      let fd : drop (w + verdictSize) last ≡ d = ap (drop (w + verdictSize)) o ∙ drop_at p d (w + verdictSize) lp in
+      let ft : take (w + verdict_size) last ≡ p = ap (take (w + verdict_size)) o ∙ take_at p d (w + verdict_size) lp in
+      let fd : drop (w + verdict_size) last ≡ d = ap (drop (w + verdict_size)) o ∙ drop_at p d (w + verdict_size) lp in
       let lo : length last ≡ length p + length d = ap length o ∙ length-append p d in
       record {
         spent = omega arith;
         inside = omega (arith, length-drop at batch);
         room = omega arith;
-        same = omega (arith, length-drop w out, length-drop verdictSize (drop w out), g.same);
+        same = omega (arith, length-drop w out, length-drop verdict_size (drop w out), g.same);
         rest = g.rest ∙ ap (ahead done at w (take w out)) (walk-judged (budget - done) (drop at batch) (offset + at) (drop w out) k n (told ∙ e))
             ∙ rw (ft, fd) (simp (add_assoc, append_assoc, drop-drop, sub-add-eq));
       }

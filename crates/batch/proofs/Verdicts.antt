@@ -5,28 +5,28 @@ use mathlib.Core.List.{List, [], ◌∷◌, ◌++◌, append_assoc}
 use native.Mathlib.Omega.{arith}
 use lib.ListN.{length, length-append}
 use Rattle.record.specs.Records.{RecordAt}
-use Rattle.verdict.specs.Verdict.{verdictSize}
+use Rattle.verdict.specs.Verdict.{verdict_size}
 use Rattle.verdict.proofs.Verdicts.{length-verdict}
-use Rattle.batch.specs.Verdicts.{verdictOf, verdictsOf}
+use Rattle.batch.specs.Verdicts.{verdict_of, verdicts_of}
 
-pub length-verdictOf : (e : RecordAt) → length (verdictOf e) ≡ verdictSize
-unfolding verdictOf
-length-verdictOf e = length-verdict _ _ _
+pub length-verdict_of : (e : RecordAt) → length (verdict_of e) ≡ verdict_size
+unfolding verdict_of
+length-verdict_of e = length-verdict _ _ _
 
-pub verdictsOf-none : verdictsOf [] ≡ []
-unfolding verdictsOf
-verdictsOf-none = refl
+pub verdicts_of-none : verdicts_of [] ≡ []
+unfolding verdicts_of
+verdicts_of-none = refl
 
-pub verdictsOf-more : (e : RecordAt) (es : List RecordAt) → verdictsOf (e ∷ es) ≡ verdictOf e ++ verdictsOf es
-unfolding verdictsOf
-verdictsOf-more e es = refl
+pub verdicts_of-more : (e : RecordAt) (es : List RecordAt) → verdicts_of (e ∷ es) ≡ verdict_of e ++ verdicts_of es
+unfolding verdicts_of
+verdicts_of-more e es = refl
 
-pub length-verdictsOf : (es : List RecordAt) → length (verdictsOf es) ≡ verdictSize * length es
-unfolding verdictsOf
-length-verdictsOf [] = refl
-length-verdictsOf (e ∷ es) = omega (arith, length-append (verdictOf e) (verdictsOf es), length-verdictOf e, length-verdictsOf es)
+pub length-verdicts_of : (es : List RecordAt) → length (verdicts_of es) ≡ verdict_size * length es
+unfolding verdicts_of
+length-verdicts_of [] = refl
+length-verdicts_of (e ∷ es) = omega (arith, length-append (verdict_of e) (verdicts_of es), length-verdict_of e, length-verdicts_of es)
 
-pub verdictsOf-append : (es fs : List RecordAt) → verdictsOf (es ++ fs) ≡ verdictsOf es ++ verdictsOf fs
-unfolding verdictsOf
-verdictsOf-append [] fs = refl
-verdictsOf-append (e ∷ es) fs = rw (verdictsOf-append es fs) (sym (append_assoc (verdictOf e) (verdictsOf es) (verdictsOf fs)))
+pub verdicts_of-append : (es fs : List RecordAt) → verdicts_of (es ++ fs) ≡ verdicts_of es ++ verdicts_of fs
+unfolding verdicts_of
+verdicts_of-append [] fs = refl
+verdicts_of-append (e ∷ es) fs = rw (verdicts_of-append es fs) (sym (append_assoc (verdict_of e) (verdicts_of es) (verdicts_of fs)))

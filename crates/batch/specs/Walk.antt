@@ -1,11 +1,11 @@
 -- SCOPE, "The batch": a call "takes the batch, the stream offset of its first byte, the output and a budget of records, and answers why it stopped, records judged, bytes read, bytes written".
 use Rattle.std.specs.Prelude.{ℕ, zero, suc, ◌+◌, ◌^◌, List, ◌++◌, ltb, leb, eqb, length, drop, cond}
 use Rattle.record.specs.Head.{head_of}
-use Rattle.record.specs.Records.{recordAt}
+use Rattle.record.specs.Records.{record_at}
 use Rattle.record.specs.declared.Head.{Head}
 use Rattle.record.specs.declared.Head.TheVariants.{End, Short, TooLong, CutShort, Record}
-use Rattle.verdict.specs.Verdict.{verdictSize}
-use Rattle.batch.specs.Verdicts.{verdictOf}
+use Rattle.verdict.specs.Verdict.{verdict_size}
+use Rattle.batch.specs.Verdicts.{verdict_of}
 use Rattle.batch.specs.declared.Stop.{Stop}
 use Rattle.batch.specs.declared.Stop.TheVariants.{Finished, Budget, Room, Cut, Offset, Long}
 use Rattle.batch.specs.declared.Act.{Act}
@@ -13,13 +13,13 @@ use Rattle.batch.specs.declared.Act.TheVariants.{Stops, Judges}
 use Rattle.batch.specs.declared.Ran.{Ran}
 
 -- the numbers of the stops
-abbrev pub stopNumber : Stop → ℕ
-stopNumber Finished = 0  -- no bytes left
-stopNumber Budget = 31  -- budget spent
-stopNumber Room = 32  -- no room for a verdict
-stopNumber Cut = 33  -- fewer than 4 bytes, or the value cut short
-stopNumber Offset = 34  -- offset plus batch length is 2^64 or more
-stopNumber Long = 35  -- length above the head limit
+abbrev pub stop_number : Stop → ℕ
+stop_number Finished = 0  -- no bytes left
+stop_number Budget = 31  -- budget spent
+stop_number Room = 32  -- no room for a verdict
+stop_number Cut = 33  -- fewer than 4 bytes, or the value cut short
+stop_number Offset = 34  -- offset plus batch length is 2^64 or more
+stop_number Long = 35  -- length above the head limit
 
 -- the stop where the whole records end, by what stands there (which is no whole record)
 abbrev pub end_of : Head → Stop
@@ -30,17 +30,17 @@ end_of CutShort = Cut
 end_of (Record k n) = Room
 
 -- with the budget spent 31 comes first
-abbrev pub unlessSpent : ℕ → Act → Act
-unlessSpent budget t = cond (eqb budget 0) (Stops Budget) t
+abbrev pub unless_spent : ℕ → Act → Act
+unless_spent budget t = cond (eqb budget 0) (Stops Budget) t
 
 -- before each record: no bytes left, 0; budget spent, 31; fewer than 4 bytes, 33; length above the limit, 35; value cut short, 33;
 -- no room for a verdict, 32; else it is judged
 unfoldable pub next_of : Head → ℕ → ℕ → Act
 next_of End room budget = Stops Finished
-next_of Short room budget = unlessSpent budget (Stops Cut)
-next_of TooLong room budget = unlessSpent budget (Stops Long)
-next_of CutShort room budget = unlessSpent budget (Stops Cut)
-next_of (Record k n) room budget = unlessSpent budget (cond (ltb room verdictSize) (Stops Room) (Judges k n))
+next_of Short room budget = unless_spent budget (Stops Cut)
+next_of TooLong room budget = unless_spent budget (Stops Long)
+next_of CutShort room budget = unless_spent budget (Stops Cut)
+next_of (Record k n) room budget = unless_spent budget (cond (ltb room verdict_size) (Stops Room) (Judges k n))
 
 -- what a call answers, and what its output then holds
 pub record Outcome : Type 0 where
@@ -61,7 +61,7 @@ ahead j n w v r = record { stop = r.stop; judged = j + r.judged; read = n + r.re
 abbrev pub after : Act → (List ℕ → ℕ → List ℕ → Outcome) → List ℕ → ℕ → List ℕ → Outcome
 after (Stops s) more batch offset out = stopped s out
 after (Judges k n) more batch offset out =
-    ahead 1 (4 + n) verdictSize (verdictOf (recordAt batch offset k n)) (more (drop (4 + n) batch) (offset + (4 + n)) (drop verdictSize out))
+    ahead 1 (4 + n) verdict_size (verdict_of (record_at batch offset k n)) (more (drop (4 + n) batch) (offset + (4 + n)) (drop verdict_size out))
 
 -- the walk, by the budget; with none left it never goes on
 unfoldable pub walk : ℕ → List ℕ → ℕ → List ℕ → Outcome
@@ -73,5 +73,5 @@ unfoldable pub call_of : List ℕ → ℕ → List ℕ → ℕ → Outcome
 call_of batch offset out budget = cond (leb (2 ^ 64) (offset + length batch)) (stopped Offset out) (walk budget batch offset out)
 
 -- an answer of the code, with the output
-abbrev pub outcomeOf : Ran → List ℕ → Outcome
-outcomeOf r out = record { stop = r.stop; judged = r.judged; read = r.read; written = r.written; out = out }
+abbrev pub outcome_of : Ran → List ℕ → Outcome
+outcome_of r out = record { stop = r.stop; judged = r.judged; read = r.read; written = r.written; out = out }

@@ -2,9 +2,9 @@
 // `record`, what is written for it in `verdict`, and what a field's answer is in `field`.
 ghost use Rattle.std.specs.Prelude.{◌≡◌, ◌++◌, ◌+◌, ◌-◌, ◌≤◌, length, take, drop};
 ghost use Rattle.record.specs.Head.{head_of};
-ghost use Rattle.verdict.specs.Verdict.{verdictSize, verdict};
-ghost use Rattle.batch.specs.Walk.{stopNumber, unlessSpent, next_of, outcomeOf, call_of};
-ghost use Rattle.batch.specs.Inner.{actOut};
+ghost use Rattle.verdict.specs.Verdict.{verdict_size, verdict};
+ghost use Rattle.batch.specs.Walk.{stop_number, unless_spent, next_of, outcome_of, call_of};
+ghost use Rattle.batch.specs.Inner.{act_out};
 
 use answer::Answer;
 use record::Head;
@@ -23,7 +23,7 @@ pub enum Stop {
 impl Stop {
     // SCOPE's number of a stop.
     pub fn number(self) -> u8
-        ensures { result ≡ stopNumber self }
+        ensures { result ≡ stop_number self }
     {
         match self {
             Stop::Finished => 0,
@@ -54,7 +54,7 @@ pub struct Ran {
 
 // With the budget spent 31 comes before any stop but 0.
 fn unless_spent(budget: u64, why: Stop) -> Act
-    ensures { result ≡ unlessSpent budget (Act.Stops why) }
+    ensures { result ≡ unless_spent budget (Act.Stops why) }
 {
     if budget == 0 {
         return Act::Stops(Stop::Budget);
@@ -85,8 +85,8 @@ pub fn next(head: Head, room: usize, budget: u64) -> Act
 
 // Writes a verdict's bytes at the start of `out`.
 fn write_verdict(out: &mut [u8], kind: u16, offset: u64, a: Answer)
-    requires { verdictSize ≤ length out.old }
-    ensures { out.new ≡ verdict kind offset a ++ drop verdictSize out.old }
+    requires { verdict_size ≤ length out.old }
+    ensures { out.new ≡ verdict kind offset a ++ drop verdict_size out.old }
 {
     let v = verdict::verdict_bytes(kind, offset, a);
     bytes::copy(&v, out);
@@ -97,7 +97,7 @@ fn judge_next(batch: &[u8], at: usize, offset: u64, out: &mut [u8], w: usize, bu
     requires at_in_bounds { at ≤ length batch.now }
     requires w_in_bounds { w ≤ length out.old }
     ensures value { result ≡ next_of (head_of (drop at batch.now)) (length out.old - w) budget }
-    ensures out_after { out.new ≡ take w out.old ++ actOut result (drop at batch.now) offset (drop w out.old) }
+    ensures out_after { out.new ≡ take w out.old ++ act_out result (drop at batch.now) offset (drop w out.old) }
 {
     match next(record::read_head(&batch[at..]), out.len() - w, budget) {
         Act::Stops(why) => Act::Stops(why),
@@ -113,7 +113,7 @@ fn judge_next(batch: &[u8], at: usize, offset: u64, out: &mut [u8], w: usize, bu
 // Judges record after record from the start of `batch`, whose first byte has this stream offset, and writes a verdict for each into `out`, for
 // as long as budget and room last.
 pub fn run(batch: &[u8], offset: u64, out: &mut [u8], budget: u64) -> Ran
-    ensures out_after { outcomeOf result out.new ≡ call_of batch.now offset out.old budget }
+    ensures out_after { outcome_of result out.new ≡ call_of batch.now offset out.old budget }
     ensures read_in_bounds { (result.read ≤ length batch.now) × (result.written ≤ length out.new) }
 {
     if 18446744073709551615 - (batch.len() as u64) < offset {

@@ -6,55 +6,55 @@ use mathlib.Core.List.{List, [], ◌++◌, append-nil}
 use native.Mathlib.Omega.{arith}
 use lib.ListN.{length, drop}
 use lib.Seq.{drop-append-le}
-use Rattle.record.specs.Head.{headLimit, head_of}
-use Rattle.record.specs.Records.{recordsOf, sizes}
+use Rattle.record.specs.Head.{head_limit, head_of}
+use Rattle.record.specs.Records.{records_of, sizes}
 use Rattle.record.specs.declared.Head.{Head}
 use Rattle.record.specs.declared.Head.TheVariants.{End, Short, TooLong, CutShort, Record}
-use Rattle.record.proofs.Heads.{says, long-on, stands}
+use Rattle.record.proofs.Heads.{says, long_on, stands}
 use Rattle.record.proofs.Records.{walks, none, unique, append}
-use Rattle.batch.specs.Verdicts.{verdictsOf}
+use Rattle.batch.specs.Verdicts.{verdicts_of}
 use Rattle.batch.specs.Walk.{end_of}
 use Rattle.batch.specs.declared.Stop.{Stop}
 use Rattle.batch.specs.declared.Stop.TheVariants.{Finished, Budget, Room, Cut, Offset, Long}
 use Rattle.batch_promises.specs.GoingOn.{Sum, pauses, all_of}
-use Rattle.batch_promises.proofs.GoingOn.{Did, did-all, within}
+use Rattle.batch_promises.proofs.GoingOn.{Did, did_all, within}
 
 -- no bytes; fewer than the longest record has; a length above the limit
 abbrev pub Left : Stop → List ℕ → Type 0
 Left Finished s = length s ≡ 0
 Left Budget s = ⊥
 Left Room s = stands (head_of s) ≡ true
-Left Cut s = length s < 4 + headLimit
+Left Cut s = length s < 4 + head_limit
 Left Offset s = ⊥
 Left Long s = head_of s ≡ TooLong
 
-by-head : (s : List ℕ) (h : Head) → head_of s ≡ h → Left (end_of h) s
-by-head s End e = says s End e
-by-head s Short e = let w = says s Short e in omega (arith, w.1)
-by-head s TooLong e = e
-by-head s CutShort e = let w = says s CutShort e in omega (arith, w.1, w.2)
-by-head s (Record k n) e = ap stands e
+by_head : (s : List ℕ) (h : Head) → head_of s ≡ h → Left (end_of h) s
+by_head s End e = says s End e
+by_head s Short e = let w = says s Short e in omega (arith, w.1)
+by_head s TooLong e = e
+by_head s CutShort e = let w = says s CutShort e in omega (arith, w.1, w.2)
+by_head s (Record k n) e = ap stands e
 
 pub left : (s : List ℕ) (y : Stop) → end_of (head_of s) ≡ y → Left y s
-left s y e = subst (λ (x : Stop). Left x s) e (by-head s (head_of s) refl)
+left s y e = subst (λ (x : Stop). Left x s) e (by_head s (head_of s) refl)
 
 -- calls that end at stop 35 are right however the input goes on
 module _ (all : List ℕ) (offset : ℕ) (s : Sum) (d : Did all offset s) (e : s.stop ≡ Long) (rest : List ℕ) where
-  all-of : s ≡ all_of all offset
-  all-of = did-all all offset s d (ap pauses e)
+  all_of_lem : s ≡ all_of all offset
+  all_of_lem = did_all all offset s d (ap pauses e)
 
-  stop_is : end_of (head_of (drop (sizes (recordsOf all offset)) all)) ≡ Long
+  stop_is : end_of (head_of (drop (sizes (records_of all offset)) all)) ≡ Long
   stop_is = (d.ends (ap pauses e)).1 ∙ e
 
-  long-there : head_of (drop (sizes (recordsOf all offset)) all ++ rest) ≡ TooLong
-  long-there = long-on (drop (sizes (recordsOf all offset)) all) rest (left _ Long stop_is)
+  long_there : head_of (drop (sizes (records_of all offset)) all ++ rest) ≡ TooLong
+  long_there = long_on (drop (sizes (records_of all offset)) all) rest (left _ Long stop_is)
 
-  same-records : recordsOf (all ++ rest) offset ≡ recordsOf all offset
-  same-records = unique (append (walks all offset) rest [] (none (ap stands long-there))) ∙ append-nil (recordsOf all offset)
+  same-records : records_of (all ++ rest) offset ≡ records_of all offset
+  same-records = unique (append (walks all offset) rest [] (none (ap stands long_there))) ∙ append-nil (records_of all offset)
 
-  pub long-all : all_of (all ++ rest) offset ≡ s
-  long-all =
-      let es = recordsOf all offset in
-      let inside : sizes es ≤ length all = omega (arith, (within all offset s d.part).0, ap (λ (x : Sum). x.read) all-of) in
-      rw (same-records, drop-append-le (sizes es) all rest inside, long-there)
-      (ap (λ (x : Stop). record { stop = x; judged = length es; read = sizes es; bytes = verdictsOf es }) (sym stop_is) ∙ sym all-of)
+  pub long_all : all_of (all ++ rest) offset ≡ s
+  long_all =
+      let es = records_of all offset in
+      let inside : sizes es ≤ length all = omega (arith, (within all offset s d.part).0, ap (λ (x : Sum). x.read) all_of_lem) in
+      rw (same-records, drop-append-le (sizes es) all rest inside, long_there)
+      (ap (λ (x : Stop). record { stop = x; judged = length es; read = sizes es; bytes = verdicts_of es }) (sym stop_is) ∙ sym all_of_lem)

@@ -3,21 +3,21 @@ use Prim.Native.Nat.{ℕ, ◌-◌, ◌^◌}
 use mathlib.Core.Path.{◌≡◌, refl}
 use mathlib.Core.List.{List, [], ◌∷◌, ◌++◌, map}
 use lib.ListN.{take, drop, replicate}
-use Rattle.answer.specs.Steps.{◌andThen◌, ◌orAccept◌}
+use Rattle.answer.specs.Steps.{◌and_then◌, ◌or_accept◌}
 use Rattle.text.specs.Class.{class_of}
-use Rattle.text.specs.Decimal.{decimal, numberWritten}
-use Rattle.text.specs.Field.{present, firstPlace, lengthIs, wrongFrom, firstWrong}
+use Rattle.text.specs.Decimal.{decimal, number_written}
+use Rattle.text.specs.Field.{present, first_place, length_is, wrong_from, first_wrong}
 use Rattle.text.specs.Quote.{bytes_of}
-use Rattle.text.specs.Same.{sameText}
-use Rattle.utf8.specs.Rfc3629.{leadOf, needed, wellFormed, scalarOf, charOf, front}
-use Rattle.utf8.specs.Chars.{charsPast, widths, validPrefix}
-use Rattle.codes.specs.Codes.{onList, wellSpelt, codeRule}
-use Rattle.country.specs.Country.{countries, countryAnswer}
+use Rattle.text.specs.Same.{same_text}
+use Rattle.utf8.specs.Rfc3629.{lead_of, needed, well_formed, scalar_of, char_of, front}
+use Rattle.utf8.specs.Chars.{chars_past, widths, valid_prefix}
+use Rattle.codes.specs.Codes.{on_list, well_spelt, code_rule}
+use Rattle.country.specs.Country.{countries, country_answer}
 use Rattle.common.specs.Cents as cents
-use Rattle.field.specs.Field.{admission, ruleOf, checkField}
+use Rattle.field.specs.Field.{admission, rule_of, check_field}
 use Rattle.record.specs.Head.{head_of}
-use Rattle.verdict.specs.Verdict.{answerBytes, verdict}
-use Rattle.batch.specs.Verdicts.{verdictOf}
+use Rattle.verdict.specs.Verdict.{answer_bytes, verdict}
+use Rattle.batch.specs.Verdicts.{verdict_of}
 use Rattle.batch.specs.Walk.{next_of, Outcome, stopped, walk, call_of}
 use Rattle.batch.specs.declared.Stop.{Stop}
 use Rattle.batch.specs.declared.Stop.TheVariants.{Finished, Budget, Room, Cut, Offset, Long}
@@ -64,5 +64,5 @@ table =
     ∷ []
 
 pub worked : map (λ c. call_of c.batch c.offset (replicate c.room 9) c.budget) table ≡ map (λ c. c.says) table
-unfolding present class_of decimal numberWritten firstPlace lengthIs wrongFrom firstWrong leadOf needed wellFormed scalarOf charOf front charsPast widths validPrefix onList sameText wellSpelt codeRule countries countryAnswer cents.below64 cents.digitsAt cents.numberBetween cents.digits cents.whole cents.wholeNumber cents.past cents.fraction cents.worth cents.cents cents.parts cents.parseAmountCents admission ruleOf checkField ◌andThen◌ ◌orAccept◌ head_of answerBytes verdict verdictOf next_of walk call_of
+unfolding present class_of decimal number_written first_place length_is wrong_from first_wrong lead_of needed well_formed scalar_of char_of front chars_past widths valid_prefix on_list same_text well_spelt code_rule countries country_answer cents.below64 cents.digits_at cents.number_between cents.digits cents.whole cents.whole_number cents.past cents.fraction cents.worth cents.cents cents.parts cents.parse_amount_cents admission rule_of check_field ◌and_then◌ ◌or_accept◌ head_of answer_bytes verdict verdict_of next_of walk call_of
 worked = refl

@@ -3,8 +3,8 @@ use Rattle.std.specs.Prelude.{ℕ, ◌+◌, ◌*◌, ◌≤◌, ◌<◌, ◌≡�
 use Rattle.record.specs.Head.{head_of}
 use Rattle.record.specs.Records.{RecordAt, sizes}
 use Rattle.record.specs.declared.Head.{Head}
-use Rattle.verdict.specs.Verdict.{verdictSize}
-use Rattle.batch.specs.Verdicts.{verdictsOf}
+use Rattle.verdict.specs.Verdict.{verdict_size}
+use Rattle.batch.specs.Verdicts.{verdicts_of}
 use Rattle.batch.specs.Walk.{end_of, Outcome}
 use Rattle.batch.specs.declared.Stop.{Stop}
 use Rattle.batch.specs.declared.Stop.TheVariants.{Finished, Budget, Room, Cut, Offset, Long}
@@ -13,7 +13,7 @@ use Rattle.batch.specs.declared.Stop.TheVariants.{Finished, Budget, Room, Cut, O
 abbrev pub Why : Stop → ℕ → ℕ → ℕ → ℕ → List ℕ → Head → Type 0
 Why Finished j n budget w out h = (j ≡ n) × (end_of h ≡ Finished)
 Why Budget j n budget w out h = j ≡ budget
-Why Room j n budget w out h = (j < n) × (length out < w + verdictSize)
+Why Room j n budget w out h = (j < n) × (length out < w + verdict_size)
 Why Cut j n budget w out h = (j ≡ n) × (end_of h ≡ Cut)
 Why Offset j n budget w out h = ⊥
 Why Long j n budget w out h = (j ≡ n) × (end_of h ≡ Long)
@@ -22,8 +22,8 @@ Why Long j n budget w out h = (j ≡ n) × (end_of h ≡ Long)
 pub record Counted (batch : List ℕ) (records : List RecordAt) (out : List ℕ) (budget : ℕ) (r : Outcome) : Type 0 where
   pub most : r.judged ≤ length records
   pub within : r.judged ≤ budget
-  pub written : r.written ≡ verdictSize * r.judged
+  pub written : r.written ≡ verdict_size * r.judged
   pub room : r.written ≤ length out
   pub read : r.read ≡ sizes (take r.judged records)
-  pub bytes : r.out ≡ verdictsOf (take r.judged records) ++ drop r.written out
+  pub bytes : r.out ≡ verdicts_of (take r.judged records) ++ drop r.written out
   pub why : Why r.stop r.judged (length records) budget r.written out (head_of (drop (sizes records) batch))

@@ -1,8 +1,8 @@
 -- SCOPE, "The batch": "Going on from bytes read after each 31 or 32, with the offset moved by as much, until another stop".
 use Rattle.std.specs.Prelude.{ℕ, ◌+◌, List, [], ◌∷◌, ◌++◌, Bool, true, false, cond, length, take, drop}
 use Rattle.record.specs.Head.{head_of}
-use Rattle.record.specs.Records.{recordsOf, sizes}
-use Rattle.batch.specs.Verdicts.{verdictsOf}
+use Rattle.record.specs.Records.{records_of, sizes}
+use Rattle.batch.specs.Verdicts.{verdicts_of}
 use Rattle.batch.specs.Walk.{end_of, Outcome, call_of}
 use Rattle.batch.specs.declared.Stop.{Stop}
 use Rattle.batch.specs.declared.Stop.TheVariants.{Finished, Budget, Room, Cut, Offset, Long}
@@ -32,8 +32,8 @@ pauses Long = false
 -- what one call over all the whole records of a batch gives, which has room and budget for each
 abbrev pub all_of : List ℕ → ℕ → Sum
 all_of batch offset =
-    let es = recordsOf batch offset in
-    record { stop = end_of (head_of (drop (sizes es) batch)); judged = length es; read = sizes es; bytes = verdictsOf es }
+    let es = records_of batch offset in
+    record { stop = end_of (head_of (drop (sizes es) batch)); judged = length es; read = sizes es; bytes = verdicts_of es }
 
 -- what a call is given besides the batch
 pub record Call : Type 0 where
@@ -41,8 +41,8 @@ pub record Call : Type 0 where
   pub out : List ℕ
 
 -- the first call c, and then those of the list, for as long as each pauses
-unfoldable pub goOn : List Call → Call → List ℕ → ℕ → Sum
-goOn [] c batch offset = sum_of (call_of batch offset c.out c.budget)
-goOn (d ∷ cs) c batch offset =
+unfoldable pub go_on : List Call → Call → List ℕ → ℕ → Sum
+go_on [] c batch offset = sum_of (call_of batch offset c.out c.budget)
+go_on (d ∷ cs) c batch offset =
     let r = call_of batch offset c.out c.budget in
-    cond (pauses r.stop) (plus (sum_of r) (goOn cs d (drop r.read batch) (offset + r.read))) (sum_of r)
+    cond (pauses r.stop) (plus (sum_of r) (go_on cs d (drop r.read batch) (offset + r.read))) (sum_of r)

@@ -2,13 +2,13 @@
 use mathlib.Core.Path.{◌≡◌, refl}
 use mathlib.Core.List.{List, [], ◌∷◌, map}
 use Prim.Native.String.{String}
-use Rattle.answer.specs.Steps.{◌andThen◌, ◌orAccept◌}
+use Rattle.answer.specs.Steps.{◌and_then◌, ◌or_accept◌}
 use Rattle.answer.specs.declared.Answer.TheVariants.{Accepted, Refused}
 use Rattle.answer.specs.declared.Reason.TheVariants.{Length, Wrong}
 use Rattle.text.specs.Class.{class_of}
-use Rattle.text.specs.Field.{wrongFrom, firstWrong}
+use Rattle.text.specs.Field.{wrong_from, first_wrong}
 use Rattle.text.specs.Quote.{bytes_of}
-use Rattle.bic.specs.Bic.{bicLength, bicAnswer}
+use Rattle.bic.specs.Bic.{bic_length, bic_answer}
 
 abbrev codes : List String
 codes =
@@ -25,7 +25,7 @@ codes =
     ∷ "DEUTDEFF50-"
     ∷ []
 
-pub worked : map (λ t. bicAnswer (bytes_of t)) codes
+pub worked : map (λ t. bic_answer (bytes_of t)) codes
     ≡ Accepted 0
     ∷ Accepted 0
     ∷ Accepted 0
@@ -38,5 +38,5 @@ pub worked : map (λ t. bicAnswer (bytes_of t)) codes
     ∷ Refused (Wrong 6) 303
     ∷ Refused (Wrong 10) 303
     ∷ []
-unfolding bicLength bicAnswer class_of wrongFrom firstWrong ◌andThen◌ ◌orAccept◌
+unfolding bic_length bic_answer class_of wrong_from first_wrong ◌and_then◌ ◌or_accept◌
 worked = refl

@@ -1,12 +1,12 @@
 // Kind 3, the business identifier code.
 ghost use Rattle.std.specs.Prelude.{◌≡◌};
-ghost use Rattle.bic.specs.Bic.{bicLength, bicAnswer};
+ghost use Rattle.bic.specs.Bic.{bic_length, bic_answer};
 
 use answer::{Answer, Reason, Step};
 use text::Set;
 
 fn bic_length(s: &[u8]) -> Step
-    ensures { result ≡ bicLength s.now }
+    ensures { result ≡ bic_length s.now }
 {
     let n = s.len();
     if n == 8 {
@@ -26,7 +26,7 @@ fn bic_length(s: &[u8]) -> Step
 
 // The characters are looked at only where the length is right, so that another length costs nothing.
 pub fn validate_bic(s: &[u8]) -> Answer
-    ensures { result ≡ bicAnswer s.now }
+    ensures { result ≡ bic_answer s.now }
 {
     match bic_length(s) {
         Step::Pass => text::first_wrong(Set::Capitals, s, 0, 6, 302)

@@ -19,14 +19,14 @@ use lib.Seq.{
   get_or-drop,
   get_or-append-add,
 }
-use Rattle.checkdigit.specs.Sum.{continued, exchanged, remainderOf, rearranged, ibanRemainder}
-use Rattle.checkdigit.proofs.Digits.{remainder-low, continued-append, from_nothing}
+use Rattle.checkdigit.specs.Sum.{continued, exchanged, remainder_of, rearranged, iban_remainder}
+use Rattle.checkdigit.proofs.Digits.{remainder_low, continued-append, from_nothing}
 use Rattle.checkdigit.proofs.Letters.{Kin}
-use Rattle.checkdigit.proofs.Errors.{replaced-at, exchanged-at}
+use Rattle.checkdigit.proofs.Errors.{replaced_at, exchanged-at}
 
-pub iban-low : (t : List ℕ) → ibanRemainder t < 97
-unfolding ibanRemainder
-iban-low t = remainder-low (rearranged t)
+pub iban_low : (t : List ℕ) → iban_remainder t < 97
+unfolding iban_remainder
+iban_low t = remainder_low (rearranged t)
 
 pub length-rearranged : (t : List ℕ) → length (rearranged t) ≡ length t
 unfolding rearranged
@@ -38,17 +38,17 @@ drop_all zero (a ∷ l) h = absurd (not-suc-le-zero h)
 drop_all (suc n) (a ∷ l) h = drop_all n l (le_of_suc-le-suc h)
 
 -- a text of fewer than four characters stays as it is
-pub short-stays : (t : List ℕ) → length t < 4 → rearranged t ≡ t
+pub short_stays : (t : List ℕ) → length t < 4 → rearranged t ≡ t
 unfolding rearranged
-short-stays t h = rw (drop_all 4 t (omega arith), take_all 4 t (omega arith))
+short_stays t h = rw (drop_all 4 t (omega arith), take_all 4 t (omega arith))
 
-pub short-sum : (t : List ℕ) → length t < 4 → remainderOf t ≡ ibanRemainder t
-unfolding ibanRemainder
-short-sum t h = ap remainderOf (sym (short-stays t h))
+pub short_sum : (t : List ℕ) → length t < 4 → remainder_of t ≡ iban_remainder t
+unfolding iban_remainder
+short_sum t h = ap remainder_of (sym (short_stays t h))
 
 -- the rest of the text first, and then its first four characters
-pub moved_sum : (r : ℕ) (t : List ℕ) → r ≡ continued 0 (take (length t - 4) (drop 4 t)) → continued r (take 4 t) ≡ ibanRemainder t
-unfolding ibanRemainder rearranged
+pub moved_sum : (r : ℕ) (t : List ℕ) → r ≡ continued 0 (take (length t - 4) (drop 4 t)) → continued r (take 4 t) ≡ iban_remainder t
+unfolding iban_remainder rearranged
 moved_sum r t p =
     ap (λ (n : ℕ). continued n (take 4 t)) (p ∙ ap (continued 0) (take_all (length t - 4) (drop 4 t) (le_of_eq (length-drop 4 t))))
     ∙ continued-append 0 (drop 4 t) (take 4 t)
@@ -100,8 +100,8 @@ stays n i h k =
       to = i;
       below = k;
       sets = λ u e c.
-          short-stays (set u i c) (omega (arith, length-set u i c)) ∙ ap (λ (v : List ℕ). set v i c) (sym (short-stays u (omega arith)));
-      gets = λ u e. ap (λ (v : List ℕ). get_or v i 0) (short-stays u (omega arith));
+          short_stays (set u i c) (omega (arith, length-set u i c)) ∙ ap (λ (v : List ℕ). set v i c) (sym (short_stays u (omega arith)));
+      gets = λ u e. ap (λ (v : List ℕ). get_or v i 0) (short_stays u (omega arith));
     }
 
 moved : (n i : ℕ) → i < n → Moved n i
@@ -112,17 +112,17 @@ moved n i k = by (dec_lt n 4) (dec_lt i 4)
     by (no h) (yes l) = to_end n i (omega arith) l
     by (no h) (no l) = to_front n i (omega arith) k
 
-pub iban-replaced-at : (t : List ℕ) (i c : ℕ) → i < length t → Kin (get_or t i 0) c → ibanRemainder (set t i c) ≢ ibanRemainder t
-unfolding ibanRemainder
-iban-replaced-at t i c l k e =
+pub iban_replaced_at : (t : List ℕ) (i c : ℕ) → i < length t → Kin (get_or t i 0) c → iban_remainder (set t i c) ≢ iban_remainder t
+unfolding iban_remainder
+iban_replaced_at t i c l k e =
     let m = moved (length t) i l in
     let g = m.gets t refl in
-    replaced-at (rearranged t) m.to c (rw (length-rearranged t) m.below) (rw g k) (ap remainderOf (sym (m.sets t refl c)) ∙ e)
+    replaced_at (rearranged t) m.to c (rw (length-rearranged t) m.below) (rw g k) (ap remainder_of (sym (m.sets t refl c)) ∙ e)
 
-pub iban-exchanged-at : (t : List ℕ) (i j : ℕ) → i < length t → j < length t → length t ≤ 48 → Kin (get_or t i 0) (get_or t j 0)
-    → ibanRemainder (exchanged t i j) ≢ ibanRemainder t
-unfolding ibanRemainder
-iban-exchanged-at t i j l r w k e =
+pub iban_exchanged_at : (t : List ℕ) (i j : ℕ) → i < length t → j < length t → length t ≤ 48 → Kin (get_or t i 0) (get_or t j 0)
+    → iban_remainder (exchanged t i j) ≢ iban_remainder t
+unfolding iban_remainder
+iban_exchanged_at t i j l r w k e =
     let m = moved (length t) i l in
     let o = moved (length t) j r in
     let a = m.gets t refl in
@@ -130,4 +130,4 @@ iban-exchanged-at t i j l r w k e =
     let s : rearranged (exchanged t i j) ≡ exchanged (rearranged t) m.to o.to =
     rw (a, b) (o.sets (set t i (get_or t j 0)) (length-set t i (get_or t j 0)) (get_or t i 0) ∙ ap (λ (u : List ℕ). set u o.to (get_or t i 0)) (m.sets t refl (get_or t j 0))) in
     exchanged-at (rearranged t) m.to o.to (rw (length-rearranged t) m.below) (rw (length-rearranged t) o.below) (omega (arith, length-rearranged t))
-    (rw (a, b) k) (ap remainderOf (sym s) ∙ e)
+    (rw (a, b) k) (ap remainder_of (sym s) ∙ e)

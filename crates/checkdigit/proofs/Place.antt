@@ -6,17 +6,17 @@ use native.Mathlib.Nat.{not-suc-le-zero}
 use native.Mathlib.Decide.{dec_lt}
 use native.Mathlib.Omega.{arith}
 use lib.Dec.{T, eqb, eqb→eq}
-use Rattle.text.proofs.Ranges.{both-parts}
-use Rattle.checkdigit.proofs.Mod.{cancel, cancel-pow, cancel-add}
+use Rattle.text.proofs.Ranges.{both_parts}
+use Rattle.checkdigit.proofs.Mod.{cancel, cancel_pow, cancel_add}
 
 -- a test that passes at every number below a bound
-abbrev every-below : (ℕ → Bool) → ℕ → Bool
-every-below f zero = true
-every-below f (suc n) = f n && every-below f n
+abbrev every_below : (ℕ → Bool) → ℕ → Bool
+every_below f zero = true
+every_below f (suc n) = f n && every_below f n
 
-at-below : (f : ℕ → Bool) (n : ℕ) → T (every-below f n) → (k : ℕ) → k < n → T (f k)
-at-below f zero t k h = absurd (not-suc-le-zero h)
-at-below f (suc n) t k h = let p = both-parts (f n) (every-below f n) t in last (dec_lt k n) (at-below f n p.1 k) p.0
+at_below : (f : ℕ → Bool) (n : ℕ) → T (every_below f n) → (k : ℕ) → k < n → T (f k)
+at_below f zero t k h = absurd (not-suc-le-zero h)
+at_below f (suc n) t k h = let p = both_parts (f n) (every_below f n) t in last (dec_lt k n) (at_below f n p.1 k) p.0
   where
     last : Dec (k < n) → (k < n → T (f k)) → T (f n) → T (f k)
     last (yes l) before here = before l
@@ -31,11 +31,11 @@ test k = eqb (less_one k ^ 95 * less_one k % 97) 1
 
 inverse : (k : ℕ) → k < 95 → less_one k ^ 95 * less_one k % 97 ≡ 1
 unfolding test
-inverse k h = eqb→eq _ _ (at-below test 95 tt k h)
+inverse k h = eqb→eq _ _ (at_below test 95 tt k h)
 
 -- a weight 10^k and what is added are cancelled: 68 is the inverse of 10
 weight : (k x y r : ℕ) → (x * 10 ^ k + r) % 97 ≡ (y * 10 ^ k + r) % 97 → x % 97 ≡ y % 97
-weight k x y r p = cancel-pow 97 10 68 refl k x y (cancel-add r (x * 10 ^ k) (y * 10 ^ k) p)
+weight k x y r p = cancel_pow 97 10 68 refl k x y (cancel_add r (x * 10 ^ k) (y * 10 ^ k) p)
 
 -- one value at place k
 pub place : (k a b r : ℕ) → a < 97 → b < 97 → (a * 10 ^ k + r) % 97 ≡ (b * 10 ^ k + r) % 97 → a ≡ b

@@ -4,14 +4,14 @@ use mathlib.Core.List.{List}
 use native.Mathlib.Omega.{arith}
 use lib.Dec.{eqb}
 use Rattle.answer.specs.declared.Reason.TheVariants.{Remainder}
-use Rattle.text.proofs.Near.{Near, near-must}
-use Rattle.checkdigit.specs.Sum.{remainderOf, ibanRemainder}
-use Rattle.checkdigit.specs.RemainderStep.{remainderStep}
+use Rattle.text.proofs.Near.{Near, near_must}
+use Rattle.checkdigit.specs.Sum.{remainder_of, iban_remainder}
+use Rattle.checkdigit.specs.RemainderStep.{remainder_step}
 
-pub remainder-near : (t : List ℕ) (k : ℕ) → Near (remainderStep (remainderOf t) k)
-unfolding remainderStep remainderOf
-remainder-near t k = near-must (eqb (remainderOf t) 1) (Remainder (remainderOf t)) k (omega arith) (omega arith)
+pub remainder_near : (t : List ℕ) (k : ℕ) → Near (remainder_step (remainder_of t) k)
+unfolding remainder_step remainder_of
+remainder_near t k = near_must (eqb (remainder_of t) 1) (Remainder (remainder_of t)) k (omega arith) (omega arith)
 
-pub iban-remainder-near : (t : List ℕ) (k : ℕ) → Near (remainderStep (ibanRemainder t) k)
-unfolding ibanRemainder
-iban-remainder-near t k = remainder-near _ k
+pub iban_remainder_near : (t : List ℕ) (k : ℕ) → Near (remainder_step (iban_remainder t) k)
+unfolding iban_remainder
+iban_remainder_near t k = remainder_near _ k

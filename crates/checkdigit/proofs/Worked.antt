@@ -6,8 +6,8 @@ use mathlib.Core.List.{List, [], ◌∷◌, map}
 use Rattle.text.specs.Class.{class_of}
 use Rattle.text.specs.Decimal.{decimal}
 use Rattle.text.specs.Quote.{bytes_of}
-use Rattle.checkdigit.specs.Letter.{letterValue}
-use Rattle.checkdigit.specs.Sum.{characterValue, characterDigits, expand, remainderOf, rearranged, ibanRemainder}
+use Rattle.checkdigit.specs.Letter.{letter_value}
+use Rattle.checkdigit.specs.Sum.{character_value, character_digits, expand, remainder_of, rearranged, iban_remainder}
 
 record Example : Type 0 where
   sum : List ℕ → ℕ
@@ -15,10 +15,10 @@ record Example : Type 0 where
   leaves : ℕ
 
 abbrev iban : String → ℕ → Example
-iban s n = record { sum = ibanRemainder; text = s; leaves = n }
+iban s n = record { sum = iban_remainder; text = s; leaves = n }
 
 abbrev lei : String → ℕ → Example
-lei s n = record { sum = remainderOf; text = s; leaves = n }
+lei s n = record { sum = remainder_of; text = s; leaves = n }
 
 abbrev examples : List Example
 examples =
@@ -37,5 +37,5 @@ examples =
     ∷ []
 
 pub worked : map (λ e. e.sum (bytes_of e.text)) examples ≡ map (λ e. e.leaves) examples
-unfolding class_of decimal letterValue characterValue characterDigits expand remainderOf rearranged ibanRemainder
+unfolding class_of decimal letter_value character_value character_digits expand remainder_of rearranged iban_remainder
 worked = refl

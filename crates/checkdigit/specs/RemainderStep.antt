@@ -5,5 +5,5 @@ use Rattle.answer.specs.declared.Reason.TheVariants.{Remainder}
 use Rattle.answer.specs.declared.Step.{Step}
 
 -- k is the step's check number
-unfoldable pub remainderStep : ℕ → ℕ → Step
-remainderStep r k = must (eqb r 1) (Remainder r) k
+unfoldable pub remainder_step : ℕ → ℕ → Step
+remainder_step r k = must (eqb r 1) (Remainder r) k

@@ -1,9 +1,9 @@
 // ISO 7064 MOD 97-10 over the characters of a text: the running remainder, that of an LEI and of an IBAN, and the check digits.
 ghost use Rattle.std.specs.Prelude.{◌≡◌, [], ◌∷◌, ◌<◌, ◌^◌, ◌%◌, length};
-ghost use Rattle.checkdigit.specs.Letter.{letterValue};
-ghost use Rattle.checkdigit.specs.Sum.{characterValue, characterDigits, numberAfter, continued, remainderOf, ibanRemainder, Remains};
+ghost use Rattle.checkdigit.specs.Letter.{letter_value};
+ghost use Rattle.checkdigit.specs.Sum.{character_value, character_digits, number_after, continued, remainder_of, iban_remainder, Remains};
 ghost use Rattle.checkdigit.specs.Fill.{Fills};
-ghost use Rattle.checkdigit.specs.RemainderStep.{remainderStep};
+ghost use Rattle.checkdigit.specs.RemainderStep.{remainder_step};
 
 use answer::{Reason, Step};
 
@@ -14,13 +14,13 @@ fn wide(b: u8) -> u64
 }
 
 fn letter_value(b: u8) -> u64
-    ensures { result ≡ letterValue b }
+    ensures { result ≡ letter_value b }
 {
     if b < 55 { 0 } else { wide(b - 55) }
 }
 
 fn value(b: u8) -> u64
-    ensures { result ≡ characterValue b }
+    ensures { result ≡ character_value b }
 {
     match b {
         b'0'..=b'9' => wide(b - 48),
@@ -30,7 +30,7 @@ fn value(b: u8) -> u64
 
 // What a number is multiplied by to make room for a character's digits: one for a digit, two for any other character.
 fn scale(b: u8) -> u64
-    ensures { result ≡ 10 ^ length (characterDigits b) }
+    ensures { result ≡ 10 ^ length (character_digits b) }
 {
     match b {
         b'0'..=b'9' => 10,
@@ -42,7 +42,7 @@ fn scale(b: u8) -> u64
 // are found from the character alone, so that the processor has them ready before n, the result of the turn before, is known.
 fn with_character(n: u64, b: u8) -> u64
     requires { n < 10 ^ 17 }
-    ensures { result ≡ numberAfter n (b ∷ []) }
+    ensures { result ≡ number_after n (b ∷ []) }
 {
     n * scale(b) + value(b)
 }
@@ -78,14 +78,14 @@ pub fn mod97(r: u64, t: &[u8]) -> u64
 
 // The remainder of the text as it stands, which is an LEI's.
 pub fn remainder(t: &[u8]) -> u64
-    ensures { Remains (remainderOf t.now) result }
+    ensures { Remains (remainder_of t.now) result }
 {
     onward(0, t)
 }
 
 // The remainder of the text with its first four characters moved to the end, which is an IBAN's. A text of fewer than four stays as it is.
 pub fn iban_remainder(t: &[u8]) -> u64
-    ensures { Remains (ibanRemainder t.now) result }
+    ensures { Remains (iban_remainder t.now) result }
 {
     if t.len() < 4 {
         return remainder(t);
@@ -103,7 +103,7 @@ pub fn check_digits(r: u64) -> u64
 
 // The last step of both rules.
 pub fn remainder_is_one(r: u64, check: u16) -> Step
-    ensures { result ≡ remainderStep r check }
+    ensures { result ≡ remainder_step r check }
 {
     if r == 1 {
         return Step::Pass;

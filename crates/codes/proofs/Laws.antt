@@ -10,24 +10,24 @@ use borrow.Author.Tests.{eq-eqb, ne_eqb}
 use lib.Dec.{T, eqb, ltb, eqb→eq, eqb_refl, lt→ltb, ltb→lt}
 use lib.ListN.{length, get_or, take, drop, drop_of_length-le}
 use lib.Seq.{drop-cons, take_all}
-use Rattle.answer.specs.Steps.{check, must, ◌andThen◌, ◌orAccept◌}
+use Rattle.answer.specs.Steps.{check, must, ◌and_then◌, ◌or_accept◌}
 use Rattle.answer.specs.declared.Answer.TheVariants.{Accepted, Refused}
 use Rattle.answer.specs.declared.Reason.{Reason}
 use Rattle.answer.specs.declared.Reason.TheVariants.{NotListed}
 use Rattle.answer.specs.declared.Step.{Step}
 use Rattle.answer.specs.declared.Step.TheVariants.{Pass, Stop}
-use Rattle.answer.proofs.Laws.{stops, passes, both-pass, accepted-pass}
-use Rattle.text.specs.Same.{sameText}
+use Rattle.answer.proofs.Laws.{stops, passes, both_pass, accepted_pass}
+use Rattle.text.specs.Same.{same_text}
 use Rattle.text.specs.declared.Set.TheVariants.{Capitals}
-use Rattle.text.proofs.Ranges.{is_true, both-parts, both_of, every}
+use Rattle.text.proofs.Ranges.{is_true, both_parts, both_of, every}
 use Rattle.text.proofs.Low.{Low, low_part, low_first, length-held}
-use Rattle.text.proofs.Same.{same_text}
-use Rattle.codes.specs.Codes.{any, onList, wellSpelt, codeRule, packedOn, packed, among}
+use Rattle.text.proofs.Same.{same_text_lem}
+use Rattle.codes.specs.Codes.{any, on_list, well_spelt, code_rule, packed_on, packed, among}
 
 -- a search of a table, from a place on
 module _ (code : ℕ) (table : List ℕ) (i : ℕ) where
-  pub among-here : i < length table → get_or table i 0 ≡ code → among (drop i table) code ≡ true
-  among-here h e = rw (drop-cons table i 0 h, eq-eqb (get_or table i 0) code e)
+  pub among_here : i < length table → get_or table i 0 ≡ code → among (drop i table) code ≡ true
+  among_here h e = rw (drop-cons table i 0 h, eq-eqb (get_or table i 0) code e)
 
   pub among_next : i < length table → (get_or table i 0 ≡ code → ⊥) → among (drop i table) code ≡ among (drop (i + 1) table) code
   among_next h n = rw (add-one i, drop-cons table i 0 h, ne_eqb (get_or table i 0) code n)
@@ -44,49 +44,49 @@ abbrev pub fit : ℕ → List (List ℕ) → Bool
 fit n [] = true
 fit n (w ∷ ws) = (eqb (length w) n && bytes w) && fit n ws
 
-equal-tests : (a b : Bool) → (T a → T b) → (T b → T a) → a ≡ b
-equal-tests true true f g = refl
-equal-tests true false f g = absurd (f tt)
-equal-tests false true f g = absurd (g tt)
-equal-tests false false f g = refl
+equal_tests : (a b : Bool) → (T a → T b) → (T b → T a) → a ≡ b
+equal_tests true true f g = refl
+equal_tests true false f g = absurd (f tt)
+equal_tests false true f g = absurd (g tt)
+equal_tests false false f g = refl
 
 -- a number is packed of one row of bytes only, of a given length
-packed-once : (n m : ℕ) (s t : List ℕ) → T (bytes s) → T (bytes t) → length s ≡ length t → packedOn n s ≡ packedOn m t → (n ≡ m) × T (sameText s t)
-unfolding sameText
-packed-once n m [] [] p q l e = (e, tt)
-packed-once n m [] (b ∷ t) p q l e = absurd (omega arith)
-packed-once n m (a ∷ s) [] p q l e = absurd (omega arith)
-packed-once n m (a ∷ s) (b ∷ t) p q l e =
-    let u = both-parts (ltb a 256) (bytes s) p in
-    let v = both-parts (ltb b 256) (bytes t) q in
-    let r = packed-once (256 * n + a) (256 * m + b) s t u.1 v.1 (omega arith) e in
+packed_once : (n m : ℕ) (s t : List ℕ) → T (bytes s) → T (bytes t) → length s ≡ length t → packed_on n s ≡ packed_on m t → (n ≡ m) × T (same_text s t)
+unfolding same_text
+packed_once n m [] [] p q l e = (e, tt)
+packed_once n m [] (b ∷ t) p q l e = absurd (omega arith)
+packed_once n m (a ∷ s) [] p q l e = absurd (omega arith)
+packed_once n m (a ∷ s) (b ∷ t) p q l e =
+    let u = both_parts (ltb a 256) (bytes s) p in
+    let v = both_parts (ltb b 256) (bytes t) q in
+    let r = packed_once (256 * n + a) (256 * m + b) s t u.1 v.1 (omega arith) e in
     let h = ltb→lt a 256 u.0 in
     let k = ltb→lt b 256 v.0 in
     let f : a ≡ b = omega arith in
-    (omega arith, both_of (eqb a b) (sameText s t) (rw f (eqb_refl b)) r.1)
+    (omega arith, both_of (eqb a b) (same_text s t) (rw f (eqb_refl b)) r.1)
 
-number-tells : (s w : List ℕ) → T (bytes s) → T (bytes w) → length s ≡ length w → eqb (packed w) (packed s) ≡ sameText s w
-number-tells s w p q l =
-    equal-tests (eqb (packed w) (packed s)) (sameText s w)
-    (λ u. (packed-once 0 0 s w p q l (sym (eqb→eq (packed w) (packed s) u))).1)
-    (λ u. rw (same_text s w (is_true (sameText s w) u)) (eqb_refl (packed w)))
+number_tells : (s w : List ℕ) → T (bytes s) → T (bytes w) → length s ≡ length w → eqb (packed w) (packed s) ≡ same_text s w
+number_tells s w p q l =
+    equal_tests (eqb (packed w) (packed s)) (same_text s w)
+    (λ u. (packed_once 0 0 s w p q l (sym (eqb→eq (packed w) (packed s) u))).1)
+    (λ u. rw (same_text_lem s w (is_true (same_text s w) u)) (eqb_refl (packed w)))
 
 -- a code's number stands in the packed list just where the code stands on the list
 packed-among : (n : ℕ) (s : List ℕ) (codes : List (List ℕ)) → length s ≡ n → T (bytes s) → T (fit n codes)
-    → among (map packed codes) (packed s) ≡ any (sameText s) codes
+    → among (map packed codes) (packed s) ≡ any (same_text s) codes
 packed-among n s [] l p t = refl
 packed-among n s (w ∷ codes) l p t =
-    let u = both-parts (eqb (length w) n && bytes w) (fit n codes) t in
-    let v = both-parts (eqb (length w) n) (bytes w) u.0 in
+    let u = both_parts (eqb (length w) n && bytes w) (fit n codes) t in
+    let v = both_parts (eqb (length w) n) (bytes w) u.0 in
     let k = eqb→eq (length w) n v.0 in
-    rw (number-tells s w p v.1 (omega arith), packed-among n s codes l p u.1)
+    rw (number_tells s w p v.1 (omega arith), packed-among n s codes l p u.1)
 
 -- the bytes that are read at n places from i on
-abbrev pub readAt : List ℕ → ℕ → ℕ → List ℕ
-readAt s i zero = []
-readAt s i (suc n) = get_or s i 0 ∷ readAt s (suc i) n
+abbrev pub read_at : List ℕ → ℕ → ℕ → List ℕ
+read_at s i zero = []
+read_at s i (suc n) = get_or s i 0 ∷ read_at s (suc i) n
 
-read_is : (s : List ℕ) (i n : ℕ) → i + n ≤ length s → readAt s i n ≡ take n (drop i s)
+read_is : (s : List ℕ) (i n : ℕ) → i + n ≤ length s → read_at s i n ≡ take n (drop i s)
 read_is s i zero h = refl
 read_is s i (suc n) h = rw (drop-cons s i 0 (omega arith), read_is s (suc i) n (omega arith))
 
@@ -96,34 +96,34 @@ every_of f (b ∷ s) h = both_of (f b) (every f s) (h 0 (omega arith)) (every_of
 
 module _ (kind n : ℕ) (s : List ℕ) where
   -- what the steps before the list have shown
-  spelt-length : wellSpelt kind n s ≡ Pass → length s ≡ n
-  unfolding wellSpelt
-  spelt-length e = length-held n s (check kind 2) (both-pass _ _ (both-pass _ _ (both-pass _ _ e).0).0).1
+  spelt_length : well_spelt kind n s ≡ Pass → length s ≡ n
+  unfolding well_spelt
+  spelt_length e = length-held n s (check kind 2) (both_pass _ _ (both_pass _ _ (both_pass _ _ e).0).0).1
 
-  spelt-low : wellSpelt kind n s ≡ Pass → Low s 0 (length s)
-  unfolding wellSpelt
-  spelt-low e =
-      low_part s 0 n 0 (length s) (omega arith) (omega (arith, spelt-length e)) (low_first s Capitals 0 n (check kind 4) (both-pass _ _ e).1)
+  spelt_low : well_spelt kind n s ≡ Pass → Low s 0 (length s)
+  unfolding well_spelt
+  spelt_low e =
+      low_part s 0 n 0 (length s) (omega arith) (omega (arith, spelt_length e)) (low_first s Capitals 0 n (check kind 4) (both_pass _ _ e).1)
 
-  spelt-bytes : wellSpelt kind n s ≡ Pass → T (bytes s)
-  spelt-bytes e = every_of (λ b. ltb b 256) s (λ j h. lt→ltb (get_or s j 0) 256 (omega (arith, spelt-low e j (omega arith) h)))
+  spelt_bytes : well_spelt kind n s ≡ Pass → T (bytes s)
+  spelt_bytes e = every_of (λ b. ltb b 256) s (λ j h. lt→ltb (get_or s j 0) 256 (omega (arith, spelt_low e j (omega arith) h)))
 
   -- a code that is accepted is ASCII
-  pub code-low : (codes : List (List ℕ)) (m : ℕ) → codeRule kind n codes s ≡ Accepted m → Low s 0 (length s)
-  unfolding codeRule
-  code-low codes m e = spelt-low (both-pass _ _ (accepted-pass _ 0 m e)).0
+  pub code-low : (codes : List (List ℕ)) (m : ℕ) → code_rule kind n codes s ≡ Accepted m → Low s 0 (length s)
+  unfolding code_rule
+  code-low codes m e = spelt_low (both_pass _ _ (accepted_pass _ 0 m e)).0
 
   -- a field that is not well spelt is refused by the step that says so
-  pub misspelt : (codes : List (List ℕ)) (r : Reason) (k : ℕ) → wellSpelt kind n s ≡ Stop r k → Refused r k ≡ codeRule kind n codes s
-  unfolding codeRule ◌orAccept◌
-  misspelt codes r k e = rw (stops r k (onList codes s (check kind 5)) e)
+  pub misspelt : (codes : List (List ℕ)) (r : Reason) (k : ℕ) → well_spelt kind n s ≡ Stop r k → Refused r k ≡ code_rule kind n codes s
+  unfolding code_rule ◌or_accept◌
+  misspelt codes r k e = rw (stops r k (on_list codes s (check kind 5)) e)
 
   -- and of one that is, the number of its bytes decides, where every code of the list is n bytes
-  pub by_number : (codes : List (List ℕ)) (code : ℕ) (listed : Bool) → T (fit n codes) → wellSpelt kind n s ≡ Pass
-      → code ≡ packed (readAt s 0 n) → listed ≡ among (map packed codes) code
-      → must listed NotListed (check kind 5) orAccept 0 ≡ codeRule kind n codes s
-  unfolding codeRule onList
+  pub by_number : (codes : List (List ℕ)) (code : ℕ) (listed : Bool) → T (fit n codes) → well_spelt kind n s ≡ Pass
+      → code ≡ packed (read_at s 0 n) → listed ≡ among (map packed codes) code
+      → must listed NotListed (check kind 5) or_accept 0 ≡ code_rule kind n codes s
+  unfolding code_rule on_list
   by_number codes code listed t e f g =
-      let l = spelt-length e in
-      let whole : readAt s 0 n ≡ s = read_is s 0 n (omega arith) ∙ take_all n s (omega arith) in
-      rw (passes (onList codes s (check kind 5)) e, g, f, whole, packed-among n s codes l (spelt-bytes e) t)
+      let l = spelt_length e in
+      let whole : read_at s 0 n ≡ s = read_is s 0 n (omega arith) ∙ take_all n s (omega arith) in
+      rw (passes (on_list codes s (check kind 5)) e, g, f, whole, packed-among n s codes l (spelt_bytes e) t)

@@ -2,13 +2,13 @@
 -- not listed, 6." The field's text itself stands on the list, whose lines are quoted as they are printed.
 use Rattle.std.specs.Prelude.{ℕ, ◌+◌, ◌*◌, Bool, true, false, ◌||◌, cond, List, [], ◌∷◌, ◌++◌, eqb, ltb, length}
 use Prim.Native.String.{String}
-use Rattle.answer.specs.Steps.{check, must, ◌andThen◌, ◌orAccept◌}
+use Rattle.answer.specs.Steps.{check, must, ◌and_then◌, ◌or_accept◌}
 use Rattle.answer.specs.declared.Answer.{Answer}
 use Rattle.answer.specs.declared.Reason.TheVariants.{Missing, NotListed}
 use Rattle.answer.specs.declared.Step.{Step}
-use Rattle.text.specs.Field.{lengthIs, present, firstWrong}
+use Rattle.text.specs.Field.{length_is, present, first_wrong}
 use Rattle.text.specs.Quote.{bytes_of}
-use Rattle.text.specs.Same.{sameText}
+use Rattle.text.specs.Same.{same_text}
 use Rattle.text.specs.declared.Set.TheVariants.{Letters, Capitals}
 
 -- the words of a line, a blank between two; w is what has been read of the first
@@ -27,28 +27,28 @@ any f [] = false
 any f (x ∷ xs) = f x || any f xs
 
 -- in each step, k is its check number
-unfoldable pub onList : List (List ℕ) → List ℕ → ℕ → Step
-onList codes s k = must (any (sameText s) codes) NotListed k
+unfoldable pub on_list : List (List ℕ) → List ℕ → ℕ → Step
+on_list codes s k = must (any (same_text s) codes) NotListed k
 
 -- the steps before the list; the check numbers of a kind's steps count on from 100 times the kind
-unfoldable pub wellSpelt : ℕ → ℕ → List ℕ → Step
-wellSpelt kind n s =
+unfoldable pub well_spelt : ℕ → ℕ → List ℕ → Step
+well_spelt kind n s =
     present 0 (length s) (check kind 1)
-    and_then lengthIs n s (check kind 2)
-    and_then firstWrong Letters s 0 n (check kind 3)
-    and_then firstWrong Capitals s 0 n (check kind 4)
+    and_then length_is n s (check kind 2)
+    and_then first_wrong Letters s 0 n (check kind 3)
+    and_then first_wrong Capitals s 0 n (check kind 4)
 
 -- the whole rule
-unfoldable pub codeRule : ℕ → ℕ → List (List ℕ) → List ℕ → Answer
-codeRule kind n codes s = wellSpelt kind n s and_then onList codes s (check kind 5) orAccept 0
+unfoldable pub code_rule : ℕ → ℕ → List (List ℕ) → List ℕ → Answer
+code_rule kind n codes s = well_spelt kind n s and_then on_list codes s (check kind 5) or_accept 0
 
 -- how a table of numbers holds codes: the bytes as one number, the first the highest, 256 * a + b, or 65536 * a + 256 * b + c
-abbrev pub packedOn : ℕ → List ℕ → ℕ
-packedOn n [] = n
-packedOn n (b ∷ s) = packedOn (256 * n + b) s
+abbrev pub packed_on : ℕ → List ℕ → ℕ
+packed_on n [] = n
+packed_on n (b ∷ s) = packed_on (256 * n + b) s
 
 abbrev pub packed : List ℕ → ℕ
-packed s = packedOn 0 s
+packed s = packed_on 0 s
 
 -- a number stands in a table
 abbrev pub among : List ℕ → ℕ → Bool

@@ -1,15 +1,15 @@
 // Codes of capital letters that stand on a list: what the rules of kinds 7 and 8 share.
 ghost use Rattle.std.specs.Prelude.{◌≡◌, ◌+◌, ◌*◌};
-ghost use Rattle.answer.specs.Steps.{check, must, ◌orAccept◌};
+ghost use Rattle.answer.specs.Steps.{check, must, ◌or_accept◌};
 ghost use Rattle.answer.specs.declared.Reason.TheVariants.{NotListed};
-ghost use Rattle.codes.specs.Codes.{wellSpelt, among};
+ghost use Rattle.codes.specs.Codes.{well_spelt, among};
 
 use answer::{Answer, Reason, Step};
 use text::Set;
 
 // The steps that come before the search in the list, for a code of n bytes.
 pub fn well_spelt(kind: u8, n: usize, s: &[u8]) -> Step
-    ensures { result ≡ wellSpelt kind n s.now }
+    ensures { result ≡ well_spelt kind n s.now }
 {
     let first = 100 * kind as u16;
     text::present(0, s.len(), first + 1)
@@ -20,7 +20,7 @@ pub fn well_spelt(kind: u8, n: usize, s: &[u8]) -> Step
 
 // The answer of a code that is well spelt.
 pub fn by_list(kind: u8, listed: bool) -> Answer
-    ensures { result ≡ must listed NotListed (check kind 5) orAccept 0 }
+    ensures { result ≡ must listed NotListed (check kind 5) or_accept 0 }
 {
     if listed {
         Answer::Accepted(0)

@@ -1,24 +1,24 @@
 // Cents of an amount, kinds 9 (strict) and 10 (lenient): a whole number, and after a `.` its hundredths.
 ghost use Rattle.std.specs.Prelude.{◌≡◌, ◌+◌, ◌*◌, ◌≤◌, length};
-ghost use Rattle.answer.specs.Steps.{◌andThen◌, ◌orAccept◌};
+ghost use Rattle.answer.specs.Steps.{◌and_then◌, ◌or_accept◌};
 ghost use Rattle.answer.specs.declared.Reason.{Reason};
 ghost use Rattle.answer.specs.declared.Step.{Step};
-ghost use Rattle.text.specs.Field.{firstPlace};
+ghost use Rattle.text.specs.Field.{first_place};
 ghost use Rattle.common.specs.Inner.{parsed};
 ghost use Rattle.common.specs.Cents.{
   below64,
-  digitsAt,
-  numberBetween,
+  digits_at,
+  number_between,
   digits,
   whole,
-  wholeNumber,
+  whole_number,
   past,
   fraction,
   worth,
   cents,
   parts,
-  parseAmountCents,
-  parseAmountCentsLenient,
+  parse_amount_cents,
+  parse_amount_cents_lenient,
 };
 
 use answer::{Answer, Reason, Step};
@@ -34,7 +34,7 @@ enum Parsed {
 // The place where the first digit should stand: after a `+`, if there is one.
 fn digits_at(s: &[u8], from: usize, to: usize) -> usize
     requires { to ≤ length s.now }
-    ensures { result ≡ digitsAt s.now from to }
+    ensures { result ≡ digits_at s.now from to }
 {
     if from < to && s[from] == b'+' {
         from + 1
@@ -57,7 +57,7 @@ fn past_limit(rest: Step, check: u16) -> Parsed
 // Digits, read in one pass. Once their number is 2^64 or more it is not computed any more, and the other bytes are only tested.
 fn digits(s: &[u8], at: usize, to: usize, check: u16) -> Parsed
     requires { (at ≤ to) × (to ≤ length s.now) × (check ≤ 2000) }
-    ensures { result ≡ parsed (digits s.now at to check) (numberBetween s.now at to) }
+    ensures { result ≡ parsed (digits s.now at to check) (number_between s.now at to) }
 {
     let mut n: u64 = 0;
     let mut i = at;
@@ -80,7 +80,7 @@ fn digits(s: &[u8], at: usize, to: usize, check: u16) -> Parsed
 // A whole number from one place up to another.
 fn whole(s: &[u8], from: usize, to: usize, check: u16) -> Parsed
     requires { (to ≤ length s.now) × (check ≤ 1900) }
-    ensures { result ≡ parsed (whole s.now from to check) (wholeNumber s.now from to) }
+    ensures { result ≡ parsed (whole s.now from to check) (whole_number s.now from to) }
 {
     let at = digits_at(s, from, to);
     if to <= at {
@@ -129,7 +129,7 @@ fn past(s: &[u8], dot: usize) -> usize
 
 // The cents of n whole units and m hundredths, where they are below 2^64.
 fn total(n: u64, m: u64, check: u16) -> Answer
-    ensures { result ≡ below64 (100 * n + m) check orAccept (100 * n + m) }
+    ensures { result ≡ below64 (100 * n + m) check or_accept (100 * n + m) }
 {
     if n <= (18_446_744_073_709_551_615 - m) / 100 {
         Answer::Accepted(100 * n + m)
@@ -141,8 +141,8 @@ fn total(n: u64, m: u64, check: u16) -> Answer
 // The steps that the two kinds share. The kinds differ in `least`, the fewest bytes that may stand after the `.`, and in their check numbers,
 // which count on from `check`.
 fn parts(least: usize, s: &[u8], dot: usize, check: u16) -> Answer
-    requires { (dot ≡ firstPlace 46 s.now) × (check ≤ 1000) }
-    ensures { result ≡ parts least s.now check orAccept cents s.now }
+    requires { (dot ≡ first_place 46 s.now) × (check ≤ 1000) }
+    ensures { result ≡ parts least s.now check or_accept cents s.now }
 {
     match whole(s, 0, dot, check + 2) {
         Parsed::Is(n) => match fraction(least, s, past(s, dot), check + 5) {
@@ -154,7 +154,7 @@ fn parts(least: usize, s: &[u8], dot: usize, check: u16) -> Answer
 }
 
 pub fn parse_amount_cents(s: &[u8]) -> Answer
-    ensures { result ≡ parseAmountCents s.now }
+    ensures { result ≡ parse_amount_cents s.now }
 {
     let dot = text::first_place(s, b'.');
     if s.len() <= dot {
@@ -164,7 +164,7 @@ pub fn parse_amount_cents(s: &[u8]) -> Answer
 }
 
 pub fn parse_amount_cents_lenient(s: &[u8]) -> Answer
-    ensures { result ≡ parseAmountCentsLenient s.now }
+    ensures { result ≡ parse_amount_cents_lenient s.now }
 {
     parts(0, s, text::first_place(s, b'.'), 1000)
 }

@@ -6,8 +6,8 @@ use lib.ListN.{length}
 use Rattle.answer.specs.declared.Answer.TheVariants.{Accepted}
 use Rattle.text.proofs.Low.{Low}
 use Rattle.codes.proofs.Laws.{code-low}
-use Rattle.country.specs.Country.{countries, countryAnswer}
+use Rattle.country.specs.Country.{countries, country_answer}
 
-pub country-low : (s : List ℕ) (n : ℕ) → countryAnswer s ≡ Accepted n → Low s 0 (length s)
-unfolding countryAnswer
-country-low s n e = code-low 7 2 s countries n e
+pub country_low : (s : List ℕ) (n : ℕ) → country_answer s ≡ Accepted n → Low s 0 (length s)
+unfolding country_answer
+country_low s n e = code-low 7 2 s countries n e

@@ -1,7 +1,7 @@
 -- SCOPE, kind 7: the 250 codes of `country.rs`, line by line and in its order, and the rule over them.
 use Rattle.std.specs.Prelude.{ℕ, List, [], ◌∷◌}
 use Rattle.answer.specs.declared.Answer.{Answer}
-use Rattle.codes.specs.Codes.{codes_of, codeRule}
+use Rattle.codes.specs.Codes.{codes_of, code_rule}
 
 unfoldable pub countries : List (List ℕ)
 countries =
@@ -25,5 +25,5 @@ countries =
     ∷ "XK"  -- Kosovo, a code in use that the standard leaves to its users
     ∷ [])
 
-unfoldable pub countryAnswer : List ℕ → Answer
-countryAnswer s = codeRule 7 2 countries s
+unfoldable pub country_answer : List ℕ → Answer
+country_answer s = code_rule 7 2 countries s

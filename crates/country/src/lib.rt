@@ -1,7 +1,7 @@
 // Kind 7: a country's code.
 ghost use Rattle.std.specs.Prelude.{◌≡◌, map};
 ghost use Rattle.codes.specs.Codes.{packed, among};
-ghost use Rattle.country.specs.Country.{countries, countryAnswer};
+ghost use Rattle.country.specs.Country.{countries, country_answer};
 
 use answer::{Answer, Step};
 
@@ -40,7 +40,7 @@ fn listed(code: u32) -> bool
 }
 
 pub fn validate_country(s: &[u8]) -> Answer
-    ensures { result ≡ countryAnswer s.now }
+    ensures { result ≡ country_answer s.now }
 {
     match codes::well_spelt(7, 2, s) {
         Step::Pass => codes::by_list(7, listed(codes::pack(0, text::at(s, 0), text::at(s, 1)))),

@@ -6,8 +6,8 @@ use lib.ListN.{length}
 use Rattle.answer.specs.declared.Answer.TheVariants.{Accepted}
 use Rattle.text.proofs.Low.{Low}
 use Rattle.codes.proofs.Laws.{code-low}
-use Rattle.currency.specs.Currency.{currencies, currencyAnswer}
+use Rattle.currency.specs.Currency.{currencies, currency_answer}
 
-pub currency-low : (s : List ℕ) (n : ℕ) → currencyAnswer s ≡ Accepted n → Low s 0 (length s)
-unfolding currencyAnswer
-currency-low s n e = code-low 8 3 s currencies n e
+pub currency_low : (s : List ℕ) (n : ℕ) → currency_answer s ≡ Accepted n → Low s 0 (length s)
+unfolding currency_answer
+currency_low s n e = code-low 8 3 s currencies n e

@@ -1,7 +1,7 @@
 -- SCOPE, kind 8: the 183 codes of `currency.rs`, line by line and in its order, and the rule over them.
 use Rattle.std.specs.Prelude.{ℕ, List, [], ◌∷◌}
 use Rattle.answer.specs.declared.Answer.{Answer}
-use Rattle.codes.specs.Codes.{codes_of, codeRule}
+use Rattle.codes.specs.Codes.{codes_of, code_rule}
 
 unfoldable pub currencies : List (List ℕ)
 currencies =
@@ -23,5 +23,5 @@ currencies =
     ∷ "HRK SLL STD VEF MRO BYR"  -- historical codes that old messages still hold
     ∷ [])
 
-unfoldable pub currencyAnswer : List ℕ → Answer
-currencyAnswer s = codeRule 8 3 currencies s
+unfoldable pub currency_answer : List ℕ → Answer
+currency_answer s = code_rule 8 3 currencies s

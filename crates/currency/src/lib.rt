@@ -1,7 +1,7 @@
 // Kind 8: a currency's code.
 ghost use Rattle.std.specs.Prelude.{◌≡◌, map};
 ghost use Rattle.codes.specs.Codes.{packed, among};
-ghost use Rattle.currency.specs.Currency.{currencies, currencyAnswer};
+ghost use Rattle.currency.specs.Currency.{currencies, currency_answer};
 
 use answer::{Answer, Step};
 
@@ -40,7 +40,7 @@ fn listed(code: u32) -> bool
 }
 
 pub fn validate_currency(s: &[u8]) -> Answer
-    ensures { result ≡ currencyAnswer s.now }
+    ensures { result ≡ currency_answer s.now }
 {
     match codes::well_spelt(8, 3, s) {
         Step::Pass => codes::by_list(

@@ -1,32 +1,32 @@
 -- Worked examples: dates and datetimes, with a refusal by each kind of step, one theorem.
 use mathlib.Core.Path.{◌≡◌, refl}
 use mathlib.Core.List.{List, [], ◌∷◌, map}
-use Rattle.answer.specs.Steps.{◌andThen◌, ◌orAccept◌}
+use Rattle.answer.specs.Steps.{◌and_then◌, ◌or_accept◌}
 use Rattle.answer.specs.declared.Answer.{Answer}
 use Rattle.answer.specs.declared.Answer.TheVariants.{Accepted, Refused}
 use Rattle.answer.specs.declared.Reason.TheVariants.{Length, Wrong, Range, Missing, Trailing}
 use Rattle.text.specs.Class.{class_of}
-use Rattle.text.specs.Decimal.{decimal, numberWritten}
-use Rattle.text.specs.Field.{lengthIs, wrongFrom, literalAt, in_range, digitsIn}
+use Rattle.text.specs.Decimal.{decimal, number_written}
+use Rattle.text.specs.Field.{length_is, wrong_from, literal_at, in_range, digits_in}
 use Rattle.text.specs.Quote.{bytes_of}
-use Rattle.datetime.specs.Date.{datePart, dateAnswer}
+use Rattle.datetime.specs.Date.{date_part, date_answer}
 use Rattle.datetime.specs.Datetime.{
-  digitRun,
-  digitsEnd,
-  zonePlace,
-  lengthFrom,
-  clockPart,
-  fractionPart,
+  digit_run,
+  digits_end,
+  zone_place,
+  length_from,
+  clock_part,
+  fraction_part,
   ends_at,
-  offsetPart,
-  zonePart,
-  timePart,
-  datetimeAnswer,
+  offset_part,
+  zone_part,
+  time_part,
+  datetime_answer,
 }
 
 abbrev dates : List Answer
 dates =
-    map (λ t. dateAnswer (bytes_of t))
+    map (λ t. date_answer (bytes_of t))
     ("2024-02-30"
     ∷ "2024-13-01"
     ∷ "1899-12-31"
@@ -42,7 +42,7 @@ dates =
 
 abbrev datetimes : List Answer
 datetimes =
-    map (λ t. datetimeAnswer (bytes_of t))
+    map (λ t. datetime_answer (bytes_of t))
     ("2024-01-01T12:00:00Z"
     ∷ "2024-01-01T12:00:00.123456789012+01:30"
     ∷ "2024-02-30T23:59:59-00:00"
@@ -100,5 +100,5 @@ pub worked : (dates
     ∷ Refused (Trailing 20) 528
     ∷ Refused (Trailing 25) 528
     ∷ [])
-unfolding datePart dateAnswer digitRun digitsEnd zonePlace lengthFrom clockPart fractionPart ends_at offsetPart zonePart timePart datetimeAnswer class_of decimal numberWritten lengthIs wrongFrom literalAt in_range digitsIn ◌andThen◌ ◌orAccept◌
+unfolding date_part date_answer digit_run digits_end zone_place length_from clock_part fraction_part ends_at offset_part zone_part time_part datetime_answer class_of decimal number_written length_is wrong_from literal_at in_range digits_in ◌and_then◌ ◌or_accept◌
 worked = (refl, refl)

@@ -1,18 +1,18 @@
 // Kinds 4 and 5: the date and the datetime of ISO 8601 in the form that ISO 20022 uses.
 ghost use Rattle.std.specs.Prelude.{◌≡◌, ◌≤◌, length};
-ghost use Rattle.datetime.specs.Date.{datePart, dateAnswer};
+ghost use Rattle.datetime.specs.Date.{date_part, date_answer};
 ghost use Rattle.datetime.specs.Datetime.{
-  isSign,
-  digitsEnd,
-  zonePlace,
-  lengthFrom,
-  clockPart,
-  fractionPart,
+  is_sign,
+  digits_end,
+  zone_place,
+  length_from,
+  clock_part,
+  fraction_part,
   ends_at,
-  offsetPart,
-  zonePart,
-  timePart,
-  datetimeAnswer,
+  offset_part,
+  zone_part,
+  time_part,
+  datetime_answer,
 };
 
 use answer::{Answer, Reason, Step};
@@ -20,7 +20,7 @@ use text::Set;
 
 // The date in bytes 0 to 9. Kinds 4 and 5 share these steps, and the kind gives their check numbers.
 fn date_part(s: &[u8], kind: u8) -> Step
-    ensures { result ≡ datePart s.now kind }
+    ensures { result ≡ date_part s.now kind }
 {
     let base = 100 * (kind as u16);
     text::four_digits(s, 0, 1900, 2099, base + 2)
@@ -32,7 +32,7 @@ fn date_part(s: &[u8], kind: u8) -> Step
 
 // The bytes are looked at only where the length is right, so that another length costs nothing.
 pub fn validate_iso_date(s: &[u8]) -> Answer
-    ensures { result ≡ dateAnswer s.now }
+    ensures { result ≡ date_answer s.now }
 {
     match text::length_is(s, 10, 401) {
         Step::Pass => date_part(s, 4).or_accept(0),
@@ -41,7 +41,7 @@ pub fn validate_iso_date(s: &[u8]) -> Answer
 }
 
 fn length_from(s: &[u8], n: usize, check: u16) -> Step
-    ensures { result ≡ lengthFrom n s.now check }
+    ensures { result ≡ length_from n s.now check }
 {
     let count = s.len();
     if n <= count {
@@ -59,7 +59,7 @@ fn length_from(s: &[u8], n: usize, check: u16) -> Step
 
 // `T` and the time of day in bytes 10 to 18.
 fn clock_part(s: &[u8], kind: u8) -> Step
-    ensures { result ≡ clockPart s.now kind }
+    ensures { result ≡ clock_part s.now kind }
 {
     let base = 100 * (kind as u16);
     text::literal(s, 10, b'T', base + 10)
@@ -72,7 +72,7 @@ fn clock_part(s: &[u8], kind: u8) -> Step
 
 // Where byte 19 is `.`, a digit follows.
 fn fraction_part(s: &[u8], kind: u8) -> Step
-    ensures { result ≡ fractionPart s.now kind }
+    ensures { result ≡ fraction_part s.now kind }
 {
     let base = 100 * (kind as u16);
     if text::at(s, 19) == b'.' {
@@ -88,7 +88,7 @@ fn fraction_part(s: &[u8], kind: u8) -> Step
 
 // The place after the digits that stand from a place on.
 fn digits_end(s: &[u8], from: usize) -> usize
-    ensures { result ≡ digitsEnd s.now from }
+    ensures { result ≡ digits_end s.now from }
 {
     let mut i = from;
     while i < s.len() {
@@ -103,7 +103,7 @@ fn digits_end(s: &[u8], from: usize) -> usize
 
 // Where the zone stands: after the fraction, or after the seconds.
 fn zone_place(s: &[u8]) -> usize
-    ensures { result ≡ zonePlace s.now }
+    ensures { result ≡ zone_place s.now }
 {
     if text::at(s, 19) == b'.' {
         digits_end(s, 20)
@@ -113,7 +113,7 @@ fn zone_place(s: &[u8]) -> usize
 }
 
 fn sign(b: u8) -> bool
-    ensures { result ≡ isSign b }
+    ensures { result ≡ is_sign b }
 {
     if b == b'+' { true } else { b == b'-' }
 }
@@ -131,7 +131,7 @@ fn ends_at(s: &[u8], i: usize, check: u16) -> Step
 // The five bytes after a sign. That there are five is tested first: then i + 5 is at most the field's length, and does not wrap.
 fn offset_part(s: &[u8], i: usize, kind: u8) -> Step
     requires { i ≤ length s.now }
-    ensures { result ≡ offsetPart s.now i kind }
+    ensures { result ≡ offset_part s.now i kind }
 {
     let base = 100 * (kind as u16);
     if s.len() - i < 5 {
@@ -145,7 +145,7 @@ fn offset_part(s: &[u8], i: usize, kind: u8) -> Step
 
 // The zone at a place, and nothing after it.
 fn zone_part(s: &[u8], i: usize, kind: u8) -> Step
-    ensures { result ≡ zonePart s.now i kind }
+    ensures { result ≡ zone_part s.now i kind }
 {
     let base = 100 * (kind as u16);
     if s.len() <= i {
@@ -163,7 +163,7 @@ fn zone_part(s: &[u8], i: usize, kind: u8) -> Step
 
 // Everything after the date.
 fn time_part(s: &[u8], kind: u8) -> Step
-    ensures { result ≡ timePart s.now kind }
+    ensures { result ≡ time_part s.now kind }
 {
     clock_part(s, kind)
         .then(fraction_part(s, kind))
@@ -171,7 +171,7 @@ fn time_part(s: &[u8], kind: u8) -> Step
 }
 
 pub fn validate_iso_datetime(s: &[u8]) -> Answer
-    ensures { result ≡ datetimeAnswer s.now }
+    ensures { result ≡ datetime_answer s.now }
 {
     match length_from(s, 20, 501) {
         Step::Pass => date_part(s, 5).then(time_part(s, 5)).or_accept(0),

@@ -9,7 +9,7 @@ use native.Mathlib.Omega.{arith}
 use borrow.Author.Tests.{eq-eqb, ne_eqb}
 use lib.ListN.{length}
 use types.Run.{OneOf}
-use Rattle.answer.specs.Steps.{◌andThen◌, ◌orAccept◌}
+use Rattle.answer.specs.Steps.{◌and_then◌, ◌or_accept◌}
 use Rattle.answer.specs.declared.Answer.{Answer}
 use Rattle.answer.specs.declared.Answer.TheVariants.{Accepted, Refused}
 use Rattle.answer.specs.declared.Reason.{Reason}
@@ -18,18 +18,18 @@ use Rattle.answer.specs.declared.Step.{Step}
 use Rattle.answer.specs.declared.Step.TheVariants.{Pass, Stop}
 use Rattle.text.proofs.Low.{Low}
 use Rattle.text.specs.Ranges.{within}
-use Rattle.text.proofs.Ranges.{within-yes, within-ends, of-keys}
+use Rattle.text.proofs.Ranges.{within_yes, within-ends, of_keys}
 use Rattle.utf8.specs.Chars.{ascii}
-use Rattle.utf8.proofs.Ascii.{below-ascii, ascii-prefix}
-use Rattle.lei.proofs.Accepted.{lei-low}
-use Rattle.bic.proofs.Accepted.{bic-low}
-use Rattle.datetime.proofs.Accepted.{date-low, datetime-low}
-use Rattle.amount.proofs.Accepted.{amount-low}
-use Rattle.country.proofs.Accepted.{country-low}
-use Rattle.currency.proofs.Accepted.{currency-low}
-use Rattle.common.proofs.Accepted.{cents-low, lenient-low}
-use Rattle.field.specs.Field.{Kind, kinds, lineIn, limitStep, admission, ruleOf, answered, checkField}
-use Rattle.field.specs.Inner.{utf8Step, beforeRule, afterRule, Suits}
+use Rattle.utf8.proofs.Ascii.{below_ascii, ascii_prefix}
+use Rattle.lei.proofs.Accepted.{lei_low}
+use Rattle.bic.proofs.Accepted.{bic_low}
+use Rattle.datetime.proofs.Accepted.{date_low, datetime_low}
+use Rattle.amount.proofs.Accepted.{amount_low}
+use Rattle.country.proofs.Accepted.{country_low}
+use Rattle.currency.proofs.Accepted.{currency_low}
+use Rattle.common.proofs.Accepted.{cents-low, lenient_low}
+use Rattle.field.specs.Field.{Kind, kinds, line_in, limit_step, admission, rule_of, answered, check_field}
+use Rattle.field.specs.Inner.{utf8_step, before_rule, after_rule, Suits}
 use Rattle.field.specs.declared.Way.{Way}
 use Rattle.field.specs.declared.Way.TheVariants.{RuleFirst, AdmittedFirst, Exempt, Unknown}
 
@@ -38,27 +38,27 @@ abbrev Missed : List ℕ → Type 0 → ℕ → Type 0
 Missed [] N n = N
 Missed (k ∷ ks) N n = Missed ks (N × (n ≡ k → ⊥)) n
 
-one-or : (k : ℕ) (ks : List ℕ) (n : ℕ) → (n ≡ k → ⊥) → (OneOf ks n → ⊥) → OneOf (k ∷ ks) n → ⊥
-one-or k [] n f g o = f o
-one-or k (j ∷ ks) n f g o = ⊎_elim f g o
+one_or : (k : ℕ) (ks : List ℕ) (n : ℕ) → (n ≡ k → ⊥) → (OneOf ks n → ⊥) → OneOf (k ∷ ks) n → ⊥
+one_or k [] n f g o = f o
+one_or k (j ∷ ks) n f g o = ⊎_elim f g o
 
-all-missed : (ks : List ℕ) (N : Type 0) (n : ℕ) → Missed ks N n → N × (OneOf ks n → ⊥)
-all-missed [] N n m = (m, λ o. o)
-all-missed (k ∷ ks) N n m = let p = all-missed ks (N × (n ≡ k → ⊥)) n m in (p.0.0, one-or k ks n p.0.1 p.1)
+all_missed : (ks : List ℕ) (N : Type 0) (n : ℕ) → Missed ks N n → N × (OneOf ks n → ⊥)
+all_missed [] N n m = (m, λ o. o)
+all_missed (k ∷ ks) N n m = let p = all_missed ks (N × (n ≡ k → ⊥)) n m in (p.0.0, one_or k ks n p.0.1 p.1)
 
 -- a number that no line of a table has
-pub no_line : {A : Type 0} (ks : List Kind) (d : A) (f : Kind → A) (n : ℕ) → (OneOf (map (λ k. k.number) ks) n → ⊥) → lineIn ks d f n ≡ d
+pub no_line : {A : Type 0} (ks : List Kind) (d : A) (f : Kind → A) (n : ℕ) → (OneOf (map (λ k. k.number) ks) n → ⊥) → line_in ks d f n ≡ d
 no_line [] d f n h = refl
 no_line (k ∷ []) d f n h = rw (ne_eqb n k.number h)
 no_line (k ∷ j ∷ ks) d f n h = rw (ne_eqb n k.number (λ e. h (inl e))) (no_line (j ∷ ks) d f n (λ o. h (inr o)))
 
 -- the numbers of the table lie from 1 to 10
-pub from-to : (n : ℕ) → OneOf (map (λ k. k.number) kinds) n → (1 ≤ n) × (n ≤ 10)
-from-to n o = within-ends 1 10 n (rw (of-keys (within 1 10) (map (λ k. k.number) kinds) n tt o) tt)
+pub from_to : (n : ℕ) → OneOf (map (λ k. k.number) kinds) n → (1 ≤ n) × (n ≤ 10)
+from_to n o = within-ends 1 10 n (rw (of_keys (within 1 10) (map (λ k. k.number) kinds) n tt o) tt)
 
 -- a rule that accepts bytes below 128 only accepts ASCII
 low-ascii : (f : List ℕ → Answer) → ((s : List ℕ) (m : ℕ) → f s ≡ Accepted m → Low s 0 (length s)) → (s : List ℕ) (m : ℕ) → f s ≡ Accepted m → ascii s ≡ true
-low-ascii f low s m e = below-ascii s (λ i h. low s m e i (omega arith) h)
+low-ascii f low s m e = below_ascii s (λ i h. low s m e i (omega arith) h)
 
 module _ (n : ℕ) where
   -- the kind k, or one after it
@@ -66,40 +66,40 @@ module _ (n : ℕ) where
   line k p f l = ⊎_elim (λ e. rw (← e) p) (λ u. f (omega arith)) (eq-or-lt_of_le l)
 
   pub rule-first : 2 ≤ n → n ≤ 10 → Suits RuleFirst n
-  unfolding admission ruleOf ◌andThen◌
+  unfolding admission rule_of ◌and_then◌
   rule-first l h =
-      line 2 (λ s. refl, low-ascii _ lei-low)
-      (line 3 (λ s. refl, low-ascii _ bic-low)
-      (line 4 (λ s. refl, low-ascii _ date-low)
-      (line 5 (λ s. refl, low-ascii _ datetime-low)
-      (line 6 (λ s. refl, low-ascii _ amount-low)
-      (line 7 (λ s. refl, low-ascii _ country-low)
-      (line 8 (λ s. refl, low-ascii _ currency-low)
+      line 2 (λ s. refl, low-ascii _ lei_low)
+      (line 3 (λ s. refl, low-ascii _ bic_low)
+      (line 4 (λ s. refl, low-ascii _ date_low)
+      (line 5 (λ s. refl, low-ascii _ datetime_low)
+      (line 6 (λ s. refl, low-ascii _ amount_low)
+      (line 7 (λ s. refl, low-ascii _ country_low)
+      (line 8 (λ s. refl, low-ascii _ currency_low)
       (line 9 (λ s. refl, low-ascii _ cents-low)
-      (line 10 (λ s. refl, low-ascii _ lenient-low) (λ u. absurd (omega arith))))))))))
+      (line 10 (λ s. refl, low-ascii _ lenient_low) (λ u. absurd (omega arith))))))))))
       l
 
-pub iban-admitted-first : Suits AdmittedFirst 1
-unfolding admission ◌andThen◌
-iban-admitted-first s = refl
+pub iban_admitted_first : Suits AdmittedFirst 1
+unfolding admission ◌and_then◌
+iban_admitted_first s = refl
 
-pub no-rule : (n : ℕ) (s : List ℕ) (N : Type 0) → Missed (map (λ k. k.number) kinds) N n → Refused (UnknownKind n) 1 ≡ ruleOf n s
-unfolding ruleOf ◌orAccept◌
-no-rule n s N m = sym (no_line kinds _ (λ k. k.rule s) n (all-missed (map (λ k. k.number) kinds) N n m).1)
+pub no_rule : (n : ℕ) (s : List ℕ) (N : Type 0) → Missed (map (λ k. k.number) kinds) N n → Refused (UnknownKind n) 1 ≡ rule_of n s
+unfolding rule_of ◌or_accept◌
+no_rule n s N m = sym (no_line kinds _ (λ k. k.rule s) n (all_missed (map (λ k. k.number) kinds) N n m).1)
 
 pub unlisted : (n : ℕ) → (OneOf (map (λ k. k.number) kinds) n → ⊥) → Suits Unknown n
-unfolding checkField admission ruleOf ◌andThen◌ ◌orAccept◌
+unfolding check_field admission rule_of ◌and_then◌ ◌or_accept◌
 unlisted n h s = rw (no_line kinds false (λ k. true) n h, no_line kinds _ (λ k. k.rule s) n h)
 
 -- What the rule of a kind other than the IBAN's accepts is ASCII: an unknown kind's rule accepts nothing.
-pub ruled : (n : ℕ) (s : List ℕ) (m : ℕ) → n ≢ 1 → ruleOf n s ≡ Accepted m → ascii s ≡ true
-unfolding ruleOf ◌orAccept◌
+pub ruled : (n : ℕ) (s : List ℕ) (m : ℕ) → n ≢ 1 → rule_of n s ≡ Accepted m → ascii s ≡ true
+unfolding rule_of ◌or_accept◌
 ruled n s m other e = go (within 2 10 n) refl
   where
     go : (t : Bool) → within 2 10 n ≡ t → ascii s ≡ true
     go true t = let w = within-ends 2 10 n (rw t tt) in (rule-first n w.0 w.1).1 s m e
     go false t =
-        let none : OneOf (map (λ k. k.number) kinds) n → ⊥ = λ o. let w = from-to n o in apart (within-yes 2 10 n (omega arith) w.1) t in
+        let none : OneOf (map (λ k. k.number) kinds) n → ⊥ = λ o. let w = from_to n o in apart (within_yes 2 10 n (omega arith) w.1) t in
         let r = no_line kinds (Refused (UnknownKind n) 1) (λ k. k.rule s) n none in
         let z : ◌≡◌ {A = ℕ} 0 1 = cc in
         absurd (omega arith)
@@ -110,33 +110,33 @@ ruled n s m other e = go (within 2 10 n) refl
 -- a rule's answer, where a step is asked after a refusal
 abbrev pub late : Step → Answer → Answer
 late a (Accepted m) = Accepted m
-late a (Refused r k) = a and_then Stop r k orAccept 0
+late a (Refused r k) = a and_then Stop r k or_accept 0
 
-late-pass : (x : Answer) → late Pass x ≡ x
-unfolding ◌andThen◌ ◌orAccept◌
-late-pass (Accepted m) = refl
-late-pass (Refused r k) = refl
+late_pass : (x : Answer) → late Pass x ≡ x
+unfolding ◌and_then◌ ◌or_accept◌
+late_pass (Accepted m) = refl
+late_pass (Refused r k) = refl
 
-late-step : (a u : Step) (x : Answer) → ((m : ℕ) → x ≡ Accepted m → u ≡ Pass) → answered a (late u x) ≡ answered (a and_then u) x
-unfolding ◌andThen◌ ◌orAccept◌
-late-step (Stop r k) u x h = refl
-late-step Pass u (Accepted m) h = rw (h m refl)
-late-step Pass Pass (Refused r k) h = refl
-late-step Pass (Stop q j) (Refused r k) h = refl
+late_step : (a u : Step) (x : Answer) → ((m : ℕ) → x ≡ Accepted m → u ≡ Pass) → answered a (late u x) ≡ answered (a and_then u) x
+unfolding ◌and_then◌ ◌or_accept◌
+late_step (Stop r k) u x h = refl
+late_step Pass u (Accepted m) h = rw (h m refl)
+late_step Pass Pass (Refused r k) h = refl
+late_step Pass (Stop q j) (Refused r k) h = refl
 
 -- each way that suits a kind gives its answers
-pub any_order : (w : Way) (n : ℕ) (s : List ℕ) → Suits w n → answered (beforeRule w s) (late (afterRule w s) (ruleOf n s)) ≡ checkField n s
-unfolding checkField
+pub any_order : (w : Way) (n : ℕ) (s : List ℕ) → Suits w n → answered (before_rule w s) (late (after_rule w s) (rule_of n s)) ≡ check_field n s
+unfolding check_field
 any_order RuleFirst n s h =
-    rw (h.0 s) (late-step (limitStep s) (utf8Step s) (ruleOf n s) (λ m e. rw (eq-eqb _ _ (ascii-prefix s (h.1 s m e)))))
-any_order AdmittedFirst n s h = rw (h s, late-pass)
-any_order Exempt n s h = rw (h s, late-pass)
-any_order Unknown n s h = late-pass (ruleOf n s) ∙ h s
+    rw (h.0 s) (late_step (limit_step s) (utf8_step s) (rule_of n s) (λ m e. rw (eq-eqb _ _ (ascii_prefix s (h.1 s m e)))))
+any_order AdmittedFirst n s h = rw (h s, late_pass)
+any_order Exempt n s h = rw (h s, late_pass)
+any_order Unknown n s h = late_pass (rule_of n s) ∙ h s
 
 -- so the answer is the rule's where the steps before it pass, with the step after a refusal; and else that of the step that stopped
-module _ (w : Way) (n : ℕ) (s : List ℕ) {b : Step} (h : Suits w n) (e : b ≡ beforeRule w s) where
-  pub taken : {a x : Answer} → b ≡ Pass → a ≡ ruleOf n s → a ≡ x → late (afterRule w s) x ≡ checkField n s
+module _ (w : Way) (n : ℕ) (s : List ℕ) {b : Step} (h : Suits w n) (e : b ≡ before_rule w s) where
+  pub taken : {a x : Answer} → b ≡ Pass → a ≡ rule_of n s → a ≡ x → late (after_rule w s) x ≡ check_field n s
   taken p q t = rw (← e, p, ← q, t) at (any_order w n s h)
 
-  pub refused : {r : Reason} {k : ℕ} → b ≡ Stop r k → Refused r k ≡ checkField n s
+  pub refused : {r : Reason} {k : ℕ} → b ≡ Stop r k → Refused r k ≡ check_field n s
   refused p = rw (← e, p) at (any_order w n s h)

@@ -3,25 +3,25 @@ use Prim.Native.Nat.{ℕ}
 use Prim.Native.String.{String}
 use mathlib.Core.Path.{◌≡◌, refl}
 use mathlib.Core.List.{List, [], ◌∷◌, map}
-use Rattle.answer.specs.Steps.{◌andThen◌, ◌orAccept◌}
-use Rattle.answer.specs.Table.{row, numbersOf}
+use Rattle.answer.specs.Steps.{◌and_then◌, ◌or_accept◌}
+use Rattle.answer.specs.Table.{row, numbers_of}
 use Rattle.answer.specs.declared.Numbers.{Numbers}
 use Rattle.text.specs.Class.{class_of}
-use Rattle.text.specs.Decimal.{decimal, numberWritten}
-use Rattle.text.specs.Field.{present, firstPlace, lengthIs, wrongFrom, firstWrong}
+use Rattle.text.specs.Decimal.{decimal, number_written}
+use Rattle.text.specs.Field.{present, first_place, length_is, wrong_from, first_wrong}
 use Rattle.text.specs.Quote.{bytes_of}
-use Rattle.utf8.specs.Rfc3629.{leadOf, needed, wellFormed, scalarOf, charOf, front}
-use Rattle.utf8.specs.Chars.{charsPast, widths, validPrefix}
-use Rattle.utf8.specs.Space.{whiteSpace}
-use Rattle.checkdigit.specs.Letter.{letterValue}
-use Rattle.checkdigit.specs.Sum.{characterValue, characterDigits, expand, remainderOf, rearranged, ibanRemainder}
-use Rattle.checkdigit.specs.RemainderStep.{remainderStep}
-use Rattle.iban.specs.Electronic.{electronicFrom, electronic, text_of, place_in}
-use Rattle.iban.specs.Iban.{allAscii, asciiStep, countStep, classSteps, reasonIn, ibanCharacters, ibanAnswer}
-use Rattle.lei.specs.Lei.{leiCharacters, leiAnswer}
-use Rattle.amount.specs.Amount.{noMinus, start, at_most, part, fraction, allZero, notZero, validateAmount}
+use Rattle.utf8.specs.Rfc3629.{lead_of, needed, well_formed, scalar_of, char_of, front}
+use Rattle.utf8.specs.Chars.{chars_past, widths, valid_prefix}
+use Rattle.utf8.specs.Space.{white_space}
+use Rattle.checkdigit.specs.Letter.{letter_value}
+use Rattle.checkdigit.specs.Sum.{character_value, character_digits, expand, remainder_of, rearranged, iban_remainder}
+use Rattle.checkdigit.specs.RemainderStep.{remainder_step}
+use Rattle.iban.specs.Electronic.{electronic_from, electronic, text_of, place_in}
+use Rattle.iban.specs.Iban.{all_ascii, ascii_step, count_step, class_steps, reason_in, iban_characters, iban_answer}
+use Rattle.lei.specs.Lei.{lei_characters, lei_answer}
+use Rattle.amount.specs.Amount.{no_minus, start, at_most, part, fraction, all_zero, not_zero, validate_amount}
 use Rattle.common.specs.Cents as cents
-use Rattle.field.specs.Field.{admission, ruleOf, checkField}
+use Rattle.field.specs.Field.{admission, rule_of, check_field}
 
 pub record Case : Type 0 where
   pub kind : ℕ
@@ -52,6 +52,6 @@ table =
     ∷ case 11 "AA96A" (row 12 0 11)
     ∷ []
 
-pub small-table : map (λ c. numbersOf (checkField c.kind (bytes_of c.text))) table ≡ map (λ c. c.says) table
-unfolding class_of decimal numberWritten firstPlace lengthIs wrongFrom firstWrong leadOf needed wellFormed scalarOf charOf front charsPast widths validPrefix whiteSpace letterValue characterValue characterDigits expand remainderOf rearranged ibanRemainder remainderStep electronicFrom electronic text_of place_in allAscii asciiStep countStep classSteps reasonIn ibanCharacters ibanAnswer leiCharacters leiAnswer present noMinus start at_most part fraction allZero notZero validateAmount cents.below64 cents.digitsAt cents.numberBetween cents.digits cents.whole cents.wholeNumber cents.past cents.fraction cents.worth cents.cents cents.parts cents.parseAmountCents cents.parseAmountCentsLenient admission ruleOf checkField ◌andThen◌ ◌orAccept◌
-small-table = refl
+pub small_table : map (λ c. numbers_of (check_field c.kind (bytes_of c.text))) table ≡ map (λ c. c.says) table
+unfolding class_of decimal number_written first_place length_is wrong_from first_wrong lead_of needed well_formed scalar_of char_of front chars_past widths valid_prefix white_space letter_value character_value character_digits expand remainder_of rearranged iban_remainder remainder_step electronic_from electronic text_of place_in all_ascii ascii_step count_step class_steps reason_in iban_characters iban_answer lei_characters lei_answer present no_minus start at_most part fraction all_zero not_zero validate_amount cents.below64 cents.digits_at cents.number_between cents.digits cents.whole cents.whole_number cents.past cents.fraction cents.worth cents.cents cents.parts cents.parse_amount_cents cents.parse_amount_cents_lenient admission rule_of check_field ◌and_then◌ ◌or_accept◌
+small_table = refl

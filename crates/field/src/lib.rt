@@ -1,7 +1,7 @@
 // The check of one field: the choice on the kind, with the steps that every field passes before its rule.
 ghost use Rattle.std.specs.Prelude.{◌≡◌};
-ghost use Rattle.field.specs.Field.{limitStep, ruleOf, checkField};
-ghost use Rattle.field.specs.Inner.{utf8Step, beforeRule, afterRule, Suits};
+ghost use Rattle.field.specs.Field.{limit_step, rule_of, check_field};
+ghost use Rattle.field.specs.Inner.{utf8_step, before_rule, after_rule, Suits};
 
 use answer::{Answer, Reason, Step};
 
@@ -34,7 +34,7 @@ fn way_of(kind: u16) -> Way
 }
 
 fn rule(kind: u16, value: &[u8]) -> Answer
-    ensures { result ≡ ruleOf kind value.now }
+    ensures { result ≡ rule_of kind value.now }
 {
     match kind {
         1 => iban::validate_iban(value),
@@ -52,7 +52,7 @@ fn rule(kind: u16, value: &[u8]) -> Answer
 }
 
 fn within_limit(value: &[u8]) -> Step
-    ensures { result ≡ limitStep value.now }
+    ensures { result ≡ limit_step value.now }
 {
     let count = value.len();
     if count <= FIELD_LIMIT {
@@ -68,7 +68,7 @@ fn within_limit(value: &[u8]) -> Step
 }
 
 fn utf8_step(value: &[u8]) -> Step
-    ensures { result ≡ utf8Step value.now }
+    ensures { result ≡ utf8_step value.now }
 {
     let place = utf8::valid_prefix(value);
     if place == value.len() {
@@ -80,7 +80,7 @@ fn utf8_step(value: &[u8]) -> Step
 
 // A field above the limit is not read.
 fn admit(value: &[u8]) -> Step
-    ensures { result ≡ beforeRule Way.AdmittedFirst value.now }
+    ensures { result ≡ before_rule Way.AdmittedFirst value.now }
 {
     match within_limit(value) {
         Step::Pass => utf8_step(value),
@@ -94,7 +94,7 @@ fn admit(value: &[u8]) -> Step
 // itself handed to a function that the compiler does not inline, it is copied to memory at the start of every call, whether or not that
 // function is reached. A local is copied only where it is reached, and for most fields it is not.
 fn before_rule(way: Way, value: &[u8]) -> Step
-    ensures { result ≡ beforeRule way value.now }
+    ensures { result ≡ before_rule way value.now }
 {
     match way {
         Way::RuleFirst => within_limit(value),
@@ -109,7 +109,7 @@ fn before_rule(way: Way, value: &[u8]) -> Step
 
 // The step that is left for a field that its rule refused.
 fn after_rule(way: Way, value: &[u8]) -> Step
-    ensures { result ≡ afterRule way value.now }
+    ensures { result ≡ after_rule way value.now }
 {
     match way {
         Way::RuleFirst => utf8_step(value),
@@ -121,7 +121,7 @@ fn after_rule(way: Way, value: &[u8]) -> Step
 
 // The check of a field of any kind.
 pub fn check_field(kind: u16, value: &[u8]) -> Answer
-    ensures { result ≡ checkField kind value.now }
+    ensures { result ≡ check_field kind value.now }
 {
     let way = way_of(kind);
     match before_rule(way, value) {

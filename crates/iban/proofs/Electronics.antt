@@ -6,28 +6,28 @@ use mathlib.Core.List.{List, [], ◌∷◌}
 use native.Mathlib.Omega.{arith}
 use lib.ListN.{length, drop, length-map}
 use Rattle.utf8.specs.Chars.{chars}
-use Rattle.utf8.specs.Space.{whiteSpace}
+use Rattle.utf8.specs.Space.{white_space}
 use Rattle.utf8.proofs.Chars.{Stands}
-use Rattle.iban.specs.Electronic.{Character, electronicFrom, electronic, text_of, place_in}
+use Rattle.iban.specs.Electronic.{Character, electronic_from, electronic, text_of, place_in}
 
 -- the characters from a place of the field on
-abbrev pub electronicAt : List ℕ → ℕ → List Character
-electronicAt s at = electronicFrom at (chars (drop at s))
+abbrev pub electronic_at : List ℕ → ℕ → List Character
+electronic_at s at = electronic_from at (chars (drop at s))
 
 module _ (s : List ℕ) (at c w : ℕ) (p : Stands s at c w) where
-  pub electronic-blank : whiteSpace c ≡ true → electronicAt s at ≡ electronicAt s (at + w)
-  unfolding electronicFrom
-  electronic-blank e = rw (p.first, e)
+  pub electronic_blank : white_space c ≡ true → electronic_at s at ≡ electronic_at s (at + w)
+  unfolding electronic_from
+  electronic_blank e = rw (p.first, e)
 
-  pub electronic-char : whiteSpace c ≡ false → electronicAt s at ≡ record { place = at; scalar = c } ∷ electronicAt s (at + w)
-  unfolding electronicFrom
-  electronic-char e = rw (p.first, e)
+  pub electronic_char : white_space c ≡ false → electronic_at s at ≡ record { place = at; scalar = c } ∷ electronic_at s (at + w)
+  unfolding electronic_from
+  electronic_char e = rw (p.first, e)
 
-pub electronic-end : (s : List ℕ) (at : ℕ) → chars (drop at s) ≡ [] → electronicAt s at ≡ []
-unfolding electronicFrom
+pub electronic-end : (s : List ℕ) (at : ℕ) → chars (drop at s) ≡ [] → electronic_at s at ≡ []
+unfolding electronic_from
 electronic-end s at e = rw e
 
-pub electronic-start : (s : List ℕ) → electronic s ≡ electronicAt s 0
+pub electronic-start : (s : List ℕ) → electronic s ≡ electronic_at s 0
 unfolding electronic
 electronic-start s = refl
 
@@ -37,18 +37,18 @@ length-text l = length-map l (λ c. c.scalar)
 
 -- the place of the k-th character from a place of the field on
 module _ (s : List ℕ) (at c w : ℕ) (p : Stands s at c w) where
-  pub place-blank : (k : ℕ) → whiteSpace c ≡ true → place_in k (electronicAt s at) ≡ place_in k (electronicAt s (at + w))
-  place-blank k e = ap (place_in k) (electronic-blank s at c w p e)
+  pub place_blank : (k : ℕ) → white_space c ≡ true → place_in k (electronic_at s at) ≡ place_in k (electronic_at s (at + w))
+  place_blank k e = ap (place_in k) (electronic_blank s at c w p e)
 
-  pub place_here : whiteSpace c ≡ false → place_in 0 (electronicAt s at) ≡ at
+  pub place_here : white_space c ≡ false → place_in 0 (electronic_at s at) ≡ at
   unfolding place_in
-  place_here e = rw (electronic-char s at c w p e)
+  place_here e = rw (electronic_char s at c w p e)
 
-  pub place-next : (k : ℕ) → 0 < k → whiteSpace c ≡ false → place_in k (electronicAt s at) ≡ place_in (k - 1) (electronicAt s (at + w))
+  pub place-next : (k : ℕ) → 0 < k → white_space c ≡ false → place_in k (electronic_at s at) ≡ place_in (k - 1) (electronic_at s (at + w))
   unfolding place_in
   place-next zero h e = absurd (omega arith)
-  place-next (suc k) h e = let q : suc k - 1 ≡ k = omega arith in rw (electronic-char s at c w p e, q)
+  place-next (suc k) h e = let q : suc k - 1 ≡ k = omega arith in rw (electronic_char s at c w p e, q)
 
-pub place_none : (k : ℕ) (s : List ℕ) (at : ℕ) → chars (drop at s) ≡ [] → place_in k (electronicAt s at) ≡ 0
+pub place_none : (k : ℕ) (s : List ℕ) (at : ℕ) → chars (drop at s) ≡ [] → place_in k (electronic_at s at) ≡ 0
 unfolding place_in
 place_none k s at e = rw (electronic-end s at e)

@@ -2,21 +2,21 @@
 use Prim.Native.Nat.{ℕ}
 use mathlib.Core.Path.{◌≡◌, refl}
 use mathlib.Core.List.{List, [], ◌∷◌, ◌++◌, map}
-use Rattle.answer.specs.Steps.{◌andThen◌, ◌orAccept◌}
+use Rattle.answer.specs.Steps.{◌and_then◌, ◌or_accept◌}
 use Rattle.answer.specs.declared.Answer.TheVariants.{Accepted, Refused}
 use Rattle.answer.specs.declared.Reason.TheVariants.{Length, Wrong, Remainder}
 use Rattle.text.specs.Class.{class_of}
 use Rattle.text.specs.Decimal.{decimal}
-use Rattle.text.specs.Field.{wrongFrom, firstWrong}
+use Rattle.text.specs.Field.{wrong_from, first_wrong}
 use Rattle.text.specs.Quote.{bytes_of}
-use Rattle.utf8.specs.Rfc3629.{leadOf, needed, wellFormed, scalarOf, charOf, front}
-use Rattle.utf8.specs.Chars.{charsPast, widths, validPrefix}
-use Rattle.utf8.specs.Space.{whiteSpace}
-use Rattle.checkdigit.specs.Letter.{letterValue}
-use Rattle.checkdigit.specs.Sum.{characterValue, characterDigits, expand, remainderOf, rearranged, ibanRemainder}
-use Rattle.checkdigit.specs.RemainderStep.{remainderStep}
-use Rattle.iban.specs.Electronic.{electronicFrom, electronic, text_of, place_in}
-use Rattle.iban.specs.Iban.{allAscii, asciiStep, countStep, classSteps, reasonIn, ibanCharacters, ibanAnswer}
+use Rattle.utf8.specs.Rfc3629.{lead_of, needed, well_formed, scalar_of, char_of, front}
+use Rattle.utf8.specs.Chars.{chars_past, widths, valid_prefix}
+use Rattle.utf8.specs.Space.{white_space}
+use Rattle.checkdigit.specs.Letter.{letter_value}
+use Rattle.checkdigit.specs.Sum.{character_value, character_digits, expand, remainder_of, rearranged, iban_remainder}
+use Rattle.checkdigit.specs.RemainderStep.{remainder_step}
+use Rattle.iban.specs.Electronic.{electronic_from, electronic, text_of, place_in}
+use Rattle.iban.specs.Iban.{all_ascii, ascii_step, count_step, class_steps, reason_in, iban_characters, iban_answer}
 
 -- a no-break space, U+00A0, in two bytes
 abbrev blank : List ℕ
@@ -45,7 +45,7 @@ fields =
     ∷ (bytes_of "A" ++ (0xFF ∷ []))
     ∷ []
 
-pub worked : map ibanAnswer fields
+pub worked : map iban_answer fields
     ≡ Accepted 1
     ∷ Refused (Remainder 28) 106
     ∷ Refused (Remainder 49) 106
@@ -66,5 +66,5 @@ pub worked : map ibanAnswer fields
     ∷ Refused (Wrong 5) 101
     ∷ Refused (Wrong 1) 101
     ∷ []
-unfolding class_of decimal wrongFrom firstWrong leadOf needed wellFormed scalarOf charOf front charsPast widths validPrefix whiteSpace letterValue characterValue characterDigits expand remainderOf rearranged ibanRemainder remainderStep electronicFrom electronic text_of place_in allAscii asciiStep countStep classSteps reasonIn ibanCharacters ibanAnswer ◌andThen◌ ◌orAccept◌
+unfolding class_of decimal wrong_from first_wrong lead_of needed well_formed scalar_of char_of front chars_past widths valid_prefix white_space letter_value character_value character_digits expand remainder_of rearranged iban_remainder remainder_step electronic_from electronic text_of place_in all_ascii ascii_step count_step class_steps reason_in iban_characters iban_answer ◌and_then◌ ◌or_accept◌
 worked = refl

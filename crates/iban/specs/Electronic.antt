@@ -2,7 +2,7 @@
 -- character": a field's characters in electronic format, each with its place in the field as it was lent.
 use Rattle.std.specs.Prelude.{ℕ, zero, suc, ◌+◌, List, [], ◌∷◌, map, cond}
 use Rattle.utf8.specs.Chars.{Ch, chars}
-use Rattle.utf8.specs.Space.{whiteSpace}
+use Rattle.utf8.specs.Space.{white_space}
 
 -- a character: the place of its first byte in the lent field, and its scalar value
 pub record Character : Type 0 where
@@ -10,21 +10,21 @@ pub record Character : Type 0 where
   pub scalar : ℕ
 
 -- of characters that start at a place, those that are no blank
-unfoldable pub electronicFrom : ℕ → List Ch → List Character
-electronicFrom at [] = []
-electronicFrom at (c ∷ cs) =
-    cond (whiteSpace c.scalar) (electronicFrom (at + c.width) cs) (record { place = at; scalar = c.scalar } ∷ electronicFrom (at + c.width) cs)
+unfoldable pub electronic_from : ℕ → List Ch → List Character
+electronic_from at [] = []
+electronic_from at (c ∷ cs) =
+    cond (white_space c.scalar) (electronic_from (at + c.width) cs) (record { place = at; scalar = c.scalar } ∷ electronic_from (at + c.width) cs)
 
 unfoldable pub electronic : List ℕ → List Character
-electronic s = electronicFrom 0 (chars s)
+electronic s = electronic_from 0 (chars s)
 
 -- the text that characters write
 unfoldable pub text_of : List Character → List ℕ
 text_of l = map (λ c. c.scalar) l
 
 -- the field's text in electronic format
-abbrev pub electronicText : List ℕ → List ℕ
-electronicText s = text_of (electronic s)
+abbrev pub electronic_text : List ℕ → List ℕ
+electronic_text s = text_of (electronic s)
 
 -- the place in the lent field of the k-th character, counted from 0
 unfoldable pub place_in : ℕ → List Character → ℕ

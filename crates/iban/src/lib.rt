@@ -4,8 +4,8 @@ ghost use Rattle.answer.specs.declared.Reason.{Reason};
 ghost use Rattle.answer.specs.declared.Step.{Step};
 ghost use Rattle.utf8.specs.Chars.{ascii};
 ghost use Rattle.iban.specs.Electronic.{electronic, place_in};
-ghost use Rattle.iban.specs.Iban.{countStep, classSteps, reasonIn, ibanAnswer};
-ghost use Rattle.iban.specs.Format.{padded, formatBy, format_of};
+ghost use Rattle.iban.specs.Iban.{count_step, class_steps, reason_in, iban_answer};
+ghost use Rattle.iban.specs.Format.{padded, format_by, format_of};
 ghost use Rattle.iban.specs.Inner.{Dropped};
 
 use answer::{Answer, Reason, Step};
@@ -108,7 +108,7 @@ fn without_blanks(s: &[u8]) -> Electronic
 
 // The class steps on a text in electronic format, with places in that text.
 pub fn class_steps(t: &[u8]) -> Step
-    ensures { result ≡ classSteps t.now }
+    ensures { result ≡ class_steps t.now }
 {
     text::first_wrong(Set::Capitals, t, 0, 2, 103)
         .then(text::first_wrong(Set::Digits, t, 2, 4, 104))
@@ -147,7 +147,7 @@ fn place_of(s: &[u8], k: usize) -> usize
 
 // A class step counts places in the electronic format; its caller is told the place in the lent field, blanks included.
 fn reason_in(s: &[u8], reason: Reason) -> Reason
-    ensures { result ≡ reasonIn (electronic s.now) reason }
+    ensures { result ≡ reason_in (electronic s.now) reason }
 {
     let numbers = reason.numbers();
     if numbers.number == 3 {
@@ -159,7 +159,7 @@ fn reason_in(s: &[u8], reason: Reason) -> Reason
 }
 
 fn count_step(n: usize) -> Step
-    ensures { result ≡ countStep n }
+    ensures { result ≡ count_step n }
 {
     if n < 5 {
         return Step::Stop(
@@ -183,7 +183,7 @@ fn count_step(n: usize) -> Step
 }
 
 fn refused(reason: Reason, check: u32) -> Electronic
-    ensures { result ≡ formatBy (Step.Stop reason check) [] }
+    ensures { result ≡ format_by (Step.Stop reason check) [] }
 {
     Electronic {
         step: Step::Stop(reason, check),
@@ -214,7 +214,7 @@ pub fn electronic_format(s: &[u8]) -> Electronic
 }
 
 pub fn validate_iban(s: &[u8]) -> Answer
-    ensures { result ≡ ibanAnswer s.now }
+    ensures { result ≡ iban_answer s.now }
 {
     let e = electronic_format(s);
     let count = e.count;

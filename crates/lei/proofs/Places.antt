@@ -2,9 +2,9 @@
 use Prim.Native.Nat.{ℕ}
 use mathlib.Core.List.{List}
 use Rattle.text.proofs.Near.{Small, Short, nears}
-use Rattle.checkdigit.proofs.Places.{remainder-near}
-use Rattle.lei.specs.Lei.{leiCharacters, leiAnswer}
+use Rattle.checkdigit.proofs.Places.{remainder_near}
+use Rattle.lei.specs.Lei.{lei_characters, lei_answer}
 
-pub lei-small : (s : List ℕ) → Short s → Small (leiAnswer s)
-unfolding leiAnswer leiCharacters
-lei-small s h = search (nears, remainder-near) depth 9
+pub lei_small : (s : List ℕ) → Short s → Small (lei_answer s)
+unfolding lei_answer lei_characters
+lei_small s h = search (nears, remainder_near) depth 9

@@ -8,35 +8,35 @@ use lib.Dec.{ltb, eqb}
 use lib.ListN.{length, take, drop, length-append, length-take, length-drop}
 use lib.Seq.{take-append-le, drop-append-le, length-take-le}
 use borrow.Author.Tests.{ltb-true, ltb-false, lt-ltb, le-ltb, eqb-true, eqb-false, eq-eqb, ne_eqb}
-use Rattle.record.specs.Number.{littleAt}
-use Rattle.record.specs.Head.{headLimit, head_of}
-use Rattle.record.specs.Records.{recordAt}
+use Rattle.record.specs.Number.{little_at}
+use Rattle.record.specs.Head.{head_limit, head_of}
+use Rattle.record.specs.Records.{record_at}
 use Rattle.record.specs.declared.Head.{Head}
 use Rattle.record.specs.declared.Head.TheVariants.{End, Short, TooLong, CutShort, Record}
 use Rattle.record.proofs.Numbers.{number_append, number-take}
 
 -- what a whole record at the start of a batch has
 pub record Whole (s : List ℕ) (k n : ℕ) : Type 0 where
-  pub kind : k ≡ littleAt s 2 2
-  pub is : n ≡ littleAt s 0 2
-  pub legal : n ≤ headLimit
+  pub kind : k ≡ little_at s 2 2
+  pub is : n ≡ little_at s 0 2
+  pub legal : n ≤ head_limit
   pub fits : 4 + n ≤ length s
 
 -- what each head says of the bytes at whose start it stands
 abbrev pub Says : List ℕ → Head → Type 0
 Says s End = length s ≡ 0
 Says s Short = (0 < length s) × (length s < 4)
-Says s TooLong = (4 ≤ length s) × (headLimit < littleAt s 0 2)
-Says s CutShort = (4 ≤ length s) × (littleAt s 0 2 ≤ headLimit) × (length s < 4 + littleAt s 0 2)
+Says s TooLong = (4 ≤ length s) × (head_limit < little_at s 0 2)
+Says s CutShort = (4 ≤ length s) × (little_at s 0 2 ≤ head_limit) × (length s < 4 + little_at s 0 2)
 Says s (Record k n) = Whole s k n
 
 here : (s : List ℕ) → Says s (head_of s)
 unfolding head_of
-here s = go (eqb (length s) 0) refl (ltb (length s) 4) refl (ltb headLimit (littleAt s 0 2)) refl (ltb (length s) (4 + littleAt s 0 2)) refl
+here s = go (eqb (length s) 0) refl (ltb (length s) 4) refl (ltb head_limit (little_at s 0 2)) refl (ltb (length s) (4 + little_at s 0 2)) refl
   where
-    go : (b1 : Bool) → eqb (length s) 0 ≡ b1 → (b2 : Bool) → ltb (length s) 4 ≡ b2 → (b3 : Bool) → ltb headLimit (littleAt s 0 2) ≡ b3
-        → (b4 : Bool) → ltb (length s) (4 + littleAt s 0 2) ≡ b4
-        → Says s (cond b1 End (cond b2 Short (cond b3 TooLong (cond b4 CutShort (Record (littleAt s 2 2) (littleAt s 0 2))))))
+    go : (b1 : Bool) → eqb (length s) 0 ≡ b1 → (b2 : Bool) → ltb (length s) 4 ≡ b2 → (b3 : Bool) → ltb head_limit (little_at s 0 2) ≡ b3
+        → (b4 : Bool) → ltb (length s) (4 + little_at s 0 2) ≡ b4
+        → Says s (cond b1 End (cond b2 Short (cond b3 TooLong (cond b4 CutShort (Record (little_at s 2 2) (little_at s 0 2))))))
     go true e1 b2 e2 b3 e3 b4 e4 = eqb-true _ _ e1
     go false e1 true e2 b3 e3 b4 e4 = let f = eqb-false (length s) 0 e1 in (omega arith, ltb-true _ _ e2)
     go false e1 false e2 true e3 b4 e4 = (ltb-false _ _ e2, ltb-true _ _ e3)
@@ -48,25 +48,25 @@ pub says : (s : List ℕ) (h : Head) → head_of s ≡ h → Says s h
 says s h e = subst (Says s) e (here s)
 
 -- and back
-pub head-is : (s : List ℕ) (h : Head) → Says s h → head_of s ≡ h
+pub head_is : (s : List ℕ) (h : Head) → Says s h → head_of s ≡ h
 unfolding head_of
-head-is s End w = simp (eq-eqb (length s) 0 w)
-head-is s Short w = simp (ne_eqb (length s) 0 (λ z. omega (arith, w.0)), lt-ltb (length s) 4 w.1)
-head-is s TooLong w =
-    simp (ne_eqb (length s) 0 (λ z. omega (arith, w.0)), le-ltb (length s) 4 w.0, lt-ltb headLimit (littleAt s 0 2) w.1)
-head-is s CutShort w =
+head_is s End w = simp (eq-eqb (length s) 0 w)
+head_is s Short w = simp (ne_eqb (length s) 0 (λ z. omega (arith, w.0)), lt-ltb (length s) 4 w.1)
+head_is s TooLong w =
+    simp (ne_eqb (length s) 0 (λ z. omega (arith, w.0)), le-ltb (length s) 4 w.0, lt-ltb head_limit (little_at s 0 2) w.1)
+head_is s CutShort w =
     simp (
       ne_eqb (length s) 0 (λ z. omega (arith, w.0)),
       le-ltb (length s) 4 w.0,
-      le-ltb headLimit (littleAt s 0 2) w.1,
-      lt-ltb (length s) (4 + littleAt s 0 2) w.2,
+      le-ltb head_limit (little_at s 0 2) w.1,
+      lt-ltb (length s) (4 + little_at s 0 2) w.2,
     )
-head-is s (Record k n) w =
+head_is s (Record k n) w =
     simp (
       ne_eqb (length s) 0 (λ z. omega (arith, w.fits)),
       le-ltb (length s) 4 (omega (arith, w.fits)),
-      le-ltb headLimit (littleAt s 0 2) (omega (arith, w.is, w.legal)),
-      le-ltb (length s) (4 + littleAt s 0 2) (omega (arith, w.is, w.fits)),
+      le-ltb head_limit (little_at s 0 2) (omega (arith, w.is, w.legal)),
+      le-ltb (length s) (4 + little_at s 0 2) (omega (arith, w.is, w.fits)),
       ← w.kind,
       ← w.is,
     )
@@ -83,14 +83,14 @@ pub whole : (s : List ℕ) (k n : ℕ) → head_of s ≡ Record k n → Whole s 
 whole s k n e = says s (Record k n) e
 
 -- its value is as long as the head says
-pub value-long : (s : List ℕ) (o k n : ℕ) → head_of s ≡ Record k n → length (recordAt s o k n).value ≡ n
-value-long s o k n e = length-take-le n (drop 4 s) (omega (arith, (whole s k n e).fits, length-drop 4 s))
+pub value_long : (s : List ℕ) (o k n : ℕ) → head_of s ≡ Record k n → length (record_at s o k n).value ≡ n
+value_long s o k n e = length-take-le n (drop 4 s) (omega (arith, (whole s k n e).fits, length-drop 4 s))
 
 -- a length above the limit is one whatever bytes follow
-pub long-on : (s more : List ℕ) → head_of s ≡ TooLong → head_of (s ++ more) ≡ TooLong
-long-on s more e =
+pub long_on : (s more : List ℕ) → head_of s ≡ TooLong → head_of (s ++ more) ≡ TooLong
+long_on s more e =
     let w = says s TooLong e in
-    head-is (s ++ more) TooLong (omega (arith, w.0, length-append s more), rw (number_append s more 0 2 (omega (arith, w.0))) w.1)
+    head_is (s ++ more) TooLong (omega (arith, w.0, length-append s more), rw (number_append s more 0 2 (omega (arith, w.0))) w.1)
 
 -- a whole record is one and the same whatever bytes follow
 module _ (s more : List ℕ) (k n : ℕ) (e : head_of s ≡ Record k n) where
@@ -99,7 +99,7 @@ module _ (s more : List ℕ) (k n : ℕ) (e : head_of s ≡ Record k n) where
 
   pub longer : head_of (s ++ more) ≡ Record k n
   longer =
-      head-is (s ++ more) (Record k n)
+      head_is (s ++ more) (Record k n)
       (record {
         kind = w.kind ∙ sym (number_append s more 2 2 (omega (arith, w.fits)));
         is = w.is ∙ sym (number_append s more 0 2 (omega (arith, w.fits)));
@@ -107,8 +107,8 @@ module _ (s more : List ℕ) (k n : ℕ) (e : head_of s ≡ Record k n) where
         fits = omega (arith, w.fits, length-append s more);
       })
 
-  pub same-record : (o : ℕ) → recordAt (s ++ more) o k n ≡ recordAt s o k n
-  same-record o =
+  pub same_record : (o : ℕ) → record_at (s ++ more) o k n ≡ record_at s o k n
+  same_record o =
       rw (drop-append-le 4 s more (omega (arith, w.fits)), take-append-le n (drop 4 s) more (omega (arith, w.fits, length-drop 4 s)))
 
   pub same_rest : drop (4 + n) (s ++ more) ≡ drop (4 + n) s ++ more
@@ -120,7 +120,7 @@ module _ (s : List ℕ) (k n m : ℕ) (e : head_of s ≡ Record k n) (h : 4 + n 
   shorter =
       let w = whole s k n e in
       let l : 4 + n ≤ length (take m s) = simp length-take (omega (arith, w.fits)) in
-      head-is (take m s) (Record k n)
+      head_is (take m s) (Record k n)
       (record {
         kind = w.kind ∙ sym (number-take s m 2 2 (omega arith));
         is = w.is ∙ sym (number-take s m 0 2 (omega arith));

@@ -7,10 +7,10 @@ use native.Mathlib.Nat.{div-add-mod', div-lt_iff_lt-mul, pow-suc, pow-le-pow_rig
 use native.Mathlib.Numerals.{add-one}
 use lib.ListN.{length, get_or, take, drop, set, length-take, length-drop, take-append-drop}
 use lib.Seq.{take_all, take-append-le, drop-append-le, drop-cons, get_or-drop, length-take-le, take-suc-set}
-use Rattle.record.specs.Number.{to_bytes, fromBytes, littleAt, Bytes}
+use Rattle.record.specs.Number.{to_bytes, from_bytes, little_at, Bytes}
 
 -- two bytes at a place; a byte past the end counts 0
-pub two_at : (s : List ℕ) (at : ℕ) → littleAt s at 2 ≡ get_or s at 0 + 256 * get_or s (at + 1) 0
+pub two_at : (s : List ℕ) (at : ℕ) → little_at s at 2 ≡ get_or s at 0 + 256 * get_or s (at + 1) 0
 two_at [] zero = refl
 two_at [] (suc at) = refl
 two_at (a ∷ []) zero = refl
@@ -18,19 +18,19 @@ two_at (a ∷ b ∷ s) zero = omega arith
 two_at (a ∷ s) (suc at) = rw add-one (rw add-one at (two_at s at))
 
 -- bytes that follow do not change a number
-pub number_append : (s more : List ℕ) (at k : ℕ) → at + k ≤ length s → littleAt (s ++ more) at k ≡ littleAt s at k
+pub number_append : (s more : List ℕ) (at k : ℕ) → at + k ≤ length s → little_at (s ++ more) at k ≡ little_at s at k
 number_append s more at k h =
     rw (drop-append-le at s more (omega arith), take-append-le k (drop at s) more (omega (arith, length-drop at s)))
 
-pub number-take : (s : List ℕ) (m at k : ℕ) → at + k ≤ length (take m s) → littleAt (take m s) at k ≡ littleAt s at k
-number-take s m at k h = sym (number_append (take m s) (drop m s) at k h) ∙ ap (λ (l : List ℕ). littleAt l at k) (take-append-drop m s)
+pub number-take : (s : List ℕ) (m at k : ℕ) → at + k ≤ length (take m s) → little_at (take m s) at k ≡ little_at s at k
+number-take s m at k h = sym (number_append (take m s) (drop m s) at k h) ∙ ap (λ (l : List ℕ). little_at l at k) (take-append-drop m s)
 
 -- a number that k bytes hold reads back
-pub read_back : (k x : ℕ) → x < 256 ^ k → fromBytes (to_bytes k x) ≡ x
+pub read_back : (k x : ℕ) → x < 256 ^ k → from_bytes (to_bytes k x) ≡ x
 read_back zero x h = omega arith
 read_back (suc k) x h =
     let q : x / 256 < 256 ^ k = (div-lt_iff_lt-mul {k = 256} (omega arith)).1 (rw pow-suc at h) in
-    let i : fromBytes (to_bytes k (x / 256)) ≡ x / 256 = read_back k (x / 256) q in
+    let i : from_bytes (to_bytes k (x / 256)) ≡ x / 256 = read_back k (x / 256) q in
     rw i (omega (arith, div-add-mod' x 256))
 
 -- bytes of which some are left out at an end
@@ -45,54 +45,54 @@ bytes_take (x ∷ b) (suc n) h zero = h 0
 bytes_take (x ∷ b) (suc n) h (suc i) = bytes_take b n (λ j. h (suc j)) i
 
 -- so many bytes hold no greater number
-pub number-low : (b : List ℕ) → Bytes b → fromBytes b < 256 ^ length b
+pub number-low : (b : List ℕ) → Bytes b → from_bytes b < 256 ^ length b
 number-low [] h = omega arith
 number-low (x ∷ b) h = rw (pow-suc 256 (length b)) (omega (arith, h 0, number-low b (λ i. h (suc i))))
 
-pub number-within : (b : List ℕ) → Bytes b → (n : ℕ) → length b ≤ n → fromBytes b < 256 ^ n
+pub number-within : (b : List ℕ) → Bytes b → (n : ℕ) → length b ≤ n → from_bytes b < 256 ^ n
 number-within b h n l = lt_of_lt_of_le (number-low b h) (pow-le-pow_right (omega arith) l)
 
-pub number-most : (b : List ℕ) → Bytes b → (at k : ℕ) → littleAt b at k < 256 ^ k
+pub number-most : (b : List ℕ) → Bytes b → (at k : ℕ) → little_at b at k < 256 ^ k
 number-most b h at k =
     number-within (take k (drop at b)) (bytes_take (drop at b) k (bytes_drop b at h)) k (simp length-take (omega arith))
 
 -- the bytes that a number was read from
-bytes_back : (b : List ℕ) → Bytes b → to_bytes (length b) (fromBytes b) ≡ b
+bytes_back : (b : List ℕ) → Bytes b → to_bytes (length b) (from_bytes b) ≡ b
 bytes_back [] h = refl
 bytes_back (x ∷ b) h =
-    let n = fromBytes b in
+    let n = from_bytes b in
     let low : (x + 256 * n) % 256 ≡ x = omega (arith, h 0) in
     let high : (x + 256 * n) / 256 ≡ n = omega (arith, h 0) in
     rw (low, high, bytes_back b (λ i. h (suc i)))
 
 -- k bytes at a place
-pub part-long : (at k : ℕ) (b : List ℕ) → at + k ≤ length b → length (take k (drop at b)) ≡ k
-part-long at k b l = length-take-le k (drop at b) (omega (arith, length-drop at b))
+pub part_long : (at k : ℕ) (b : List ℕ) → at + k ≤ length b → length (take k (drop at b)) ≡ k
+part_long at k b l = length-take-le k (drop at b) (omega (arith, length-drop at b))
 
-pub number-back : (b : List ℕ) → Bytes b → (at k : ℕ) → at + k ≤ length b → to_bytes k (littleAt b at k) ≡ take k (drop at b)
-number-back b h at k l =
-    rw (part-long at k b l) at (bytes_back (take k (drop at b)) (bytes_take (drop at b) k (bytes_drop b at h)))
+pub number_back : (b : List ℕ) → Bytes b → (at k : ℕ) → at + k ≤ length b → to_bytes k (little_at b at k) ≡ take k (drop at b)
+number_back b h at k l =
+    rw (part_long at k b l) at (bytes_back (take k (drop at b)) (bytes_take (drop at b) k (bytes_drop b at h)))
 
 -- of at most eight bytes `read_number` reads all, in a list or in a part of one
-pub all_read : (b : List ℕ) → length b ≤ 8 → fromBytes (take 8 b) ≡ fromBytes b
+pub all_read : (b : List ℕ) → length b ≤ 8 → from_bytes (take 8 b) ≡ from_bytes b
 all_read b l = rw (take_all 8 b l)
 
-pub part-read : (b : List ℕ) (at k : ℕ) → k ≤ 8 → fromBytes (take 8 (take k (drop at b))) ≡ littleAt b at k
+pub part-read : (b : List ℕ) (at k : ℕ) → k ≤ 8 → from_bytes (take 8 (take k (drop at b))) ≡ little_at b at k
 part-read b at k l = all_read (take k (drop at b)) (simp length-take (omega arith))
 
 -- and `write_number` fills a part
 pub part-written : (at k x : ℕ) (b out : List ℕ) → at + k ≤ length b → out ≡ to_bytes (length (take k (drop at b))) x → out ≡ to_bytes k x
-part-written at k x b out l e = e ∙ ap (λ (n : ℕ). to_bytes n x) (part-long at k b l)
+part-written at k x b out l e = e ∙ ap (λ (n : ℕ). to_bytes n x) (part_long at k b l)
 
 -- read from the last byte down: one byte more at the low end
-pub read_more : (b : List ℕ) (i : ℕ) → 0 < i → i ≤ length b → fromBytes (drop (i - 1) b) ≡ get_or b (i - 1) 0 + 256 * fromBytes (drop i b)
+pub read_more : (b : List ℕ) (i : ℕ) → 0 < i → i ≤ length b → from_bytes (drop (i - 1) b) ≡ get_or b (i - 1) 0 + 256 * from_bytes (drop i b)
 read_more b i p h =
     let e : suc (i - 1) ≡ i = omega arith in
-    ap fromBytes (drop-cons b (i - 1) 0 (omega arith)) ∙ ap (λ (n : ℕ). get_or b (i - 1) 0 + 256 * fromBytes (drop n b)) e
+    ap from_bytes (drop-cons b (i - 1) 0 (omega arith)) ∙ ap (λ (n : ℕ). get_or b (i - 1) 0 + 256 * from_bytes (drop n b)) e
 
 -- written from the lowest byte up: one byte more
-pub write-more : (b : List ℕ) (n i x : ℕ) → length b ≡ n → i < n
+pub write_more : (b : List ℕ) (n i x : ℕ) → length b ≡ n → i < n
     → take i b ++ to_bytes (n - i) x ≡ take (i + 1) (set b i (x % 256)) ++ to_bytes (n - (i + 1)) (x / 256)
-write-more b n i x l h =
+write_more b n i x l h =
     let e : n - i ≡ suc (n - (i + 1)) = omega arith in
     rw (e, add-one i, take-suc-set b i (x % 256) (omega arith)) (simp append_assoc)

@@ -8,24 +8,24 @@ use native.Mathlib.Nat.{add-zero, add_assoc}
 use lib.ListN.{length, get_or, take, drop, length-drop}
 use lib.Seq.{drop-nil, drop-drop, drop_at, take-add, take-take, length-take-le}
 use Rattle.record.specs.Head.{head_of}
-use Rattle.record.specs.Records.{RecordAt, recordAt, recordsBy, recordsPast, recordsOf, sizes, offsetsOf, Increasing}
+use Rattle.record.specs.Records.{RecordAt, record_at, records_by, records_past, records_of, sizes, offsets_of, Increasing}
 use Rattle.record.specs.declared.Head.{Head}
 use Rattle.record.specs.declared.Head.TheVariants.{End, Short, TooLong, CutShort, Record}
-use Rattle.record.proofs.Heads.{head-is, whole, value-long, longer, same-record, same_rest, shorter, stands}
+use Rattle.record.proofs.Heads.{head_is, whole, value_long, longer, same_record, same_rest, shorter, stands}
 
-past : (n : ℕ) (s : List ℕ) (o : ℕ) → recordsPast n s o ≡ recordsOf (drop n s) (o + n)
-unfolding recordsPast
+past : (n : ℕ) (s : List ℕ) (o : ℕ) → records_past n s o ≡ records_of (drop n s) (o + n)
+unfolding records_past
 past n [] o = rw (drop-nil n)
 past zero (b ∷ s) o = rw add-zero
-past (suc n) (b ∷ s) o = past n s (suc o) ∙ ap (recordsOf (drop n s)) (omega arith)
+past (suc n) (b ∷ s) o = past n s (suc o) ∙ ap (records_of (drop n s)) (omega arith)
 
 -- the records of a batch: none where none stands at its start, else the first, and those past it
-pub nothing : (s : List ℕ) (o : ℕ) → stands (head_of s) ≡ false → recordsOf s o ≡ []
-unfolding recordsPast
+pub nothing : (s : List ℕ) (o : ℕ) → stands (head_of s) ≡ false → records_of s o ≡ []
+unfolding records_past
 nothing [] o e = refl
 nothing (b ∷ s) o e = go (head_of (b ∷ s)) e
   where
-    go : (h : Head) → stands h ≡ false → recordsBy h (b ∷ s) o (λ n. recordsPast n s (suc o)) ≡ []
+    go : (h : Head) → stands h ≡ false → records_by h (b ∷ s) o (λ n. records_past n s (suc o)) ≡ []
     go End e = refl
     go Short e = refl
     go TooLong e = refl
@@ -33,8 +33,8 @@ nothing (b ∷ s) o e = go (head_of (b ∷ s)) e
     go (Record k n) e = let z : ◌≡◌ {A = ℕ} 0 1 = cc in absurd (omega arith)
 
 pub first : (s : List ℕ) (o k n : ℕ) → head_of s ≡ Record k n
-    → recordsOf s o ≡ recordAt s o k n ∷ recordsOf (drop (4 + n) s) (o + (4 + n))
-unfolding recordsPast
+    → records_of s o ≡ record_at s o k n ∷ records_of (drop (4 + n) s) (o + (4 + n))
+unfolding records_past
 first [] o k n e = absurd (omega (arith, (whole [] k n e).fits))
 first (b ∷ s) o k n e =
     let q : 4 + n ≡ suc (3 + n) = omega arith in
@@ -45,37 +45,37 @@ first (b ∷ s) o k n e =
 pub data Walks : List ℕ → ℕ → List RecordAt → Type 0 where
   none : {s : List ℕ} {o : ℕ} → stands (head_of s) ≡ false → Walks s o []
   one : {s : List ℕ} {o : ℕ} (k n : ℕ) (es : List RecordAt) → head_of s ≡ Record k n → Walks (drop (4 + n) s) (o + (4 + n)) es
-      → Walks s o (recordAt s o k n ∷ es)
+      → Walks s o (record_at s o k n ∷ es)
 
-by-head : (s : List ℕ) (o : ℕ) (h : Head) → head_of s ≡ h
-    → ((k n : ℕ) → h ≡ Record k n → Walks (drop (4 + n) s) (o + (4 + n)) (recordsOf (drop (4 + n) s) (o + (4 + n)))) → Walks s o (recordsOf s o)
-by-head s o End e f = rw (nothing s o (ap stands e)) (none (ap stands e))
-by-head s o Short e f = rw (nothing s o (ap stands e)) (none (ap stands e))
-by-head s o TooLong e f = rw (nothing s o (ap stands e)) (none (ap stands e))
-by-head s o CutShort e f = rw (nothing s o (ap stands e)) (none (ap stands e))
-by-head s o (Record k n) e f = rw (first s o k n e) (one k n (recordsOf (drop (4 + n) s) (o + (4 + n))) e (f k n refl))
+by_head : (s : List ℕ) (o : ℕ) (h : Head) → head_of s ≡ h
+    → ((k n : ℕ) → h ≡ Record k n → Walks (drop (4 + n) s) (o + (4 + n)) (records_of (drop (4 + n) s) (o + (4 + n)))) → Walks s o (records_of s o)
+by_head s o End e f = rw (nothing s o (ap stands e)) (none (ap stands e))
+by_head s o Short e f = rw (nothing s o (ap stands e)) (none (ap stands e))
+by_head s o TooLong e f = rw (nothing s o (ap stands e)) (none (ap stands e))
+by_head s o CutShort e f = rw (nothing s o (ap stands e)) (none (ap stands e))
+by_head s o (Record k n) e f = rw (first s o k n e) (one k n (records_of (drop (4 + n) s) (o + (4 + n))) e (f k n refl))
 
-walks-in : (f : ℕ) (s : List ℕ) (o : ℕ) → length s ≤ f → Walks s o (recordsOf s o)
-walks-in zero s o h = by-head s o (head_of s) refl (λ k n e. absurd (omega (arith, (whole s k n e).fits)))
-walks-in (suc f) s o h =
-    by-head s o (head_of s) refl
-    (λ k n e. walks-in f (drop (4 + n) s) (o + (4 + n)) (omega (arith, (whole s k n e).fits, length-drop (4 + n) s)))
+walks_in : (f : ℕ) (s : List ℕ) (o : ℕ) → length s ≤ f → Walks s o (records_of s o)
+walks_in zero s o h = by_head s o (head_of s) refl (λ k n e. absurd (omega (arith, (whole s k n e).fits)))
+walks_in (suc f) s o h =
+    by_head s o (head_of s) refl
+    (λ k n e. walks_in f (drop (4 + n) s) (o + (4 + n)) (omega (arith, (whole s k n e).fits, length-drop (4 + n) s)))
 
-pub walks : (s : List ℕ) (o : ℕ) → Walks s o (recordsOf s o)
-walks s o = walks-in (length s) s o (omega arith)
+pub walks : (s : List ℕ) (o : ℕ) → Walks s o (records_of s o)
+walks s o = walks_in (length s) s o (omega arith)
 
-pub unique : {s : List ℕ} {o : ℕ} {es : List RecordAt} → Walks s o es → recordsOf s o ≡ es
+pub unique : {s : List ℕ} {o : ℕ} {es : List RecordAt} → Walks s o es → records_of s o ≡ es
 unique {s} {o} (none h) = nothing s o h
-unique {s} {o} (one k n es e w) = first s o k n e ∙ ap (λ (l : List RecordAt). recordAt s o k n ∷ l) (unique w)
+unique {s} {o} (one k n es e w) = first s o k n e ∙ ap (λ (l : List RecordAt). record_at s o k n ∷ l) (unique w)
 
 -- how many bytes records take: none, and one more
 pub sizes-none : sizes [] ≡ 0
 unfolding sizes
 sizes-none = refl
 
-pub size : (s : List ℕ) (o k n : ℕ) (es : List RecordAt) → head_of s ≡ Record k n → sizes (recordAt s o k n ∷ es) ≡ 4 + n + sizes es
+pub size : (s : List ℕ) (o k n : ℕ) (es : List RecordAt) → head_of s ≡ Record k n → sizes (record_at s o k n ∷ es) ≡ 4 + n + sizes es
 unfolding sizes
-size s o k n es e = rw (value-long s o k n e)
+size s o k n es e = rw (value_long s o k n e)
 
 pub inside : {s : List ℕ} {o : ℕ} {es : List RecordAt} → Walks s o es → (j : ℕ) → sizes (take j es) ≤ length s
 unfolding sizes
@@ -101,7 +101,7 @@ append (none h) more fs v = rw add-zero at v
 append {s} {o} (one k n es e w) more fs v =
     let u : Walks (drop (4 + n + sizes es) s ++ more) (o + (4 + n + sizes es)) fs = rw (size s o k n es e) at v in
     let i = append w more fs (rw (drop-drop, add_assoc o (4 + n) (sizes es)) u) in
-    subst (λ (a : RecordAt). Walks (s ++ more) o (a ∷ (es ++ fs))) (same-record s more k n e o)
+    subst (λ (a : RecordAt). Walks (s ++ more) o (a ∷ (es ++ fs))) (same_record s more k n e o)
     (one k n (es ++ fs) (longer s more k n e) (rw (same_rest s more k n e) i))
 
 -- and the bytes of the first j records hold these and no others: so a batch is cut between two records with nothing lost
@@ -109,8 +109,8 @@ drop-take : (a m : ℕ) (l : List ℕ) → a ≤ length l → drop a (take (a + 
 drop-take a m l h = rw (take-add a m l) (drop_at (take a l) (take m (drop a l)) a (length-take-le a l h))
 
 pub front : {s : List ℕ} {o : ℕ} {es : List RecordAt} → Walks s o es → (j : ℕ) → Walks (take (sizes (take j es)) s) o (take j es)
-front w zero = rw sizes-none (none (ap stands (head-is [] End refl)))
-front (none h) (suc j) = rw sizes-none (none (ap stands (head-is [] End refl)))
+front w zero = rw sizes-none (none (ap stands (head_is [] End refl)))
+front (none h) (suc j) = rw sizes-none (none (ap stands (head_is [] End refl)))
 front {s} {o} (one k n es e w) (suc j) =
     let m = sizes (take j es) in
     let f = (whole s k n e).fits in
@@ -142,7 +142,7 @@ increasing (up g r) zero (suc j) h m = at_least r j (omega arith)
 increasing (up g r) (suc i) (suc j) h m = increasing r i j (omega arith) (omega arith)
 
 -- records stand at rising offsets
-pub rising : {s : List ℕ} {o : ℕ} {es : List RecordAt} → Walks s o es → (j : ℕ) → Rising o (offsetsOf (take j es))
+pub rising : {s : List ℕ} {o : ℕ} {es : List RecordAt} → Walks s o es → (j : ℕ) → Rising o (offsets_of (take j es))
 rising w zero = end
 rising (none h) (suc j) = end
 rising {s} {o} (one k n es e w) (suc j) =

@@ -1,18 +1,18 @@
 -- SCOPE, "The batch": "A record is a value length (two bytes, little-endian), a kind (two bytes, little-endian), the value."
 use Rattle.std.specs.Prelude.{ℕ, ◌+◌, List, ltb, eqb, length, cond}
-use Rattle.record.specs.Number.{littleAt}
+use Rattle.record.specs.Number.{little_at}
 use Rattle.record.specs.declared.Head.{Head}
 use Rattle.record.specs.declared.Head.TheVariants.{End, Short, TooLong, CutShort, Record}
 
 -- the longest value that a head may announce
-abbrev pub headLimit : ℕ
-headLimit = 8192
+abbrev pub head_limit : ℕ
+head_limit = 8192
 
 -- what stands at the start of a batch: no bytes; fewer than 4; a length above the limit; a value cut short; a whole record
 unfoldable pub head_of : List ℕ → Head
 head_of s =
     cond (eqb (length s) 0) End
     (cond (ltb (length s) 4) Short
-    (cond (ltb headLimit (littleAt s 0 2)) TooLong
-    (cond (ltb (length s) (4 + littleAt s 0 2)) CutShort
-    (Record (littleAt s 2 2) (littleAt s 0 2)))))
+    (cond (ltb head_limit (little_at s 0 2)) TooLong
+    (cond (ltb (length s) (4 + little_at s 0 2)) CutShort
+    (Record (little_at s 2 2) (little_at s 0 2)))))

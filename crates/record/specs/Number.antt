@@ -7,13 +7,13 @@ to_bytes zero x = []
 to_bytes (suc k) x = x % 256 ∷ to_bytes k (x / 256)
 
 -- the number that bytes write
-abbrev pub fromBytes : List ℕ → ℕ
-fromBytes [] = 0
-fromBytes (b ∷ s) = b + 256 * fromBytes s
+abbrev pub from_bytes : List ℕ → ℕ
+from_bytes [] = 0
+from_bytes (b ∷ s) = b + 256 * from_bytes s
 
 -- the number that k bytes at a place write
-abbrev pub littleAt : List ℕ → ℕ → ℕ → ℕ
-littleAt s at k = fromBytes (take k (drop at s))
+abbrev pub little_at : List ℕ → ℕ → ℕ → ℕ
+little_at s at k = from_bytes (take k (drop at s))
 
 -- every element is a byte
 abbrev pub Bytes : List ℕ → Type 0

@@ -11,26 +11,26 @@ pub record RecordAt : Type 0 where
   pub value : List ℕ
 
 -- the record at the start of a batch, by what its head says
-abbrev pub recordAt : List ℕ → ℕ → ℕ → ℕ → RecordAt
-recordAt batch offset k n = record { offset = offset; kind = k; value = take n (drop 4 batch) }
+abbrev pub record_at : List ℕ → ℕ → ℕ → ℕ → RecordAt
+record_at batch offset k n = record { offset = offset; kind = k; value = take n (drop 4 batch) }
 
 -- a whole record, and then those past its bytes, of which one is passed already; any other head ends them
-abbrev pub recordsBy : Head → List ℕ → ℕ → (ℕ → List RecordAt) → List RecordAt
-recordsBy End batch offset rest = []
-recordsBy Short batch offset rest = []
-recordsBy TooLong batch offset rest = []
-recordsBy CutShort batch offset rest = []
-recordsBy (Record k n) batch offset rest = recordAt batch offset k n ∷ rest (3 + n)
+abbrev pub records_by : Head → List ℕ → ℕ → (ℕ → List RecordAt) → List RecordAt
+records_by End batch offset rest = []
+records_by Short batch offset rest = []
+records_by TooLong batch offset rest = []
+records_by CutShort batch offset rest = []
+records_by (Record k n) batch offset rest = record_at batch offset k n ∷ rest (3 + n)
 
 -- the records of a batch past its first n bytes
-unfoldable pub recordsPast : ℕ → List ℕ → ℕ → List RecordAt
-recordsPast n [] offset = []
-recordsPast zero (b ∷ s) offset = recordsBy (head_of (b ∷ s)) (b ∷ s) offset (λ n. recordsPast n s (suc offset))
-recordsPast (suc n) (b ∷ s) offset = recordsPast n s (suc offset)
+unfoldable pub records_past : ℕ → List ℕ → ℕ → List RecordAt
+records_past n [] offset = []
+records_past zero (b ∷ s) offset = records_by (head_of (b ∷ s)) (b ∷ s) offset (λ n. records_past n s (suc offset))
+records_past (suc n) (b ∷ s) offset = records_past n s (suc offset)
 
 -- the whole records of a batch whose first byte has this stream offset, up to the first place where none stands
-abbrev pub recordsOf : List ℕ → ℕ → List RecordAt
-recordsOf batch offset = recordsPast 0 batch offset
+abbrev pub records_of : List ℕ → ℕ → List RecordAt
+records_of batch offset = records_past 0 batch offset
 
 -- how many bytes records take
 unfoldable pub sizes : List RecordAt → ℕ
@@ -38,8 +38,8 @@ sizes [] = 0
 sizes (e ∷ es) = 4 + length e.value + sizes es
 
 -- their stream offsets
-abbrev pub offsetsOf : List RecordAt → List ℕ
-offsetsOf es = map (λ e. e.offset) es
+abbrev pub offsets_of : List RecordAt → List ℕ
+offsets_of es = map (λ e. e.offset) es
 
 -- each number is below every later one
 abbrev pub Increasing : List ℕ → Type 0

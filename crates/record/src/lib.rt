@@ -1,7 +1,7 @@
 // Records in bytes: numbers written in bytes, the lowest byte first, and the head that each record of a batch begins with. What a record is
 // judged by stands in `batch`; whoever walks over records reads their heads here.
 ghost use Rattle.std.specs.Prelude.{◌≡◌, ◌+◌, ◌≤◌, length, take};
-ghost use Rattle.record.specs.Number.{to_bytes, fromBytes, littleAt};
+ghost use Rattle.record.specs.Number.{to_bytes, from_bytes, little_at};
 ghost use Rattle.record.specs.Head.{head_of};
 
 // The longest value that a head may announce.
@@ -20,7 +20,7 @@ pub enum Head {
 
 // The number that bytes write, the lowest first; of more than eight bytes the first eight.
 pub fn read_number(b: &[u8]) -> u64
-    ensures { result ≡ fromBytes (take 8 b.now) }
+    ensures { result ≡ from_bytes (take 8 b.now) }
 {
     let mut x: u64 = 0;
     let mut i = b.len();
@@ -73,7 +73,7 @@ pub fn eight(x: u64) -> [u8; 8]
 // Two bytes at a place.
 fn pair_at(s: &[u8], at: usize) -> u16
     requires { at + 2 ≤ length s.now }
-    ensures { result ≡ littleAt s.now at 2 }
+    ensures { result ≡ little_at s.now at 2 }
 {
     (s[at] as u16) + 256 * (s[at + 1] as u16)
 }

@@ -1,34 +1,34 @@
 -- Definitions that only inner functions of `repairs` cite: a reader of the promises can pass over them.
 use Rattle.std.specs.Prelude.{ℕ, List, take, set}
-use Rattle.answer.specs.Steps.{◌andThen◌}
+use Rattle.answer.specs.Steps.{◌and_then◌}
 use Rattle.answer.specs.declared.Step.{Step}
 use Rattle.answer.specs.declared.Step.TheVariants.{Pass, Stop}
 use Rattle.checkdigit.specs.Sum.{exchanged}
-use Rattle.checkdigit.specs.Fill.{checkDigits, stamped}
-use Rattle.sheet.specs.Sheets.{remainderBy, digitsPlace}
+use Rattle.checkdigit.specs.Fill.{check_digits, stamped}
+use Rattle.sheet.specs.Sheets.{remainder_by, digits_place}
 use Rattle.sheet.specs.Load.{refusal, load_of}
-use Rattle.repairs.specs.Repairs.{givenSteps, sheetStep}
+use Rattle.repairs.specs.Repairs.{given_steps, sheet_step}
 use Rattle.repairs.specs.declared.Request.{Request}
 use Rattle.repairs.specs.declared.Request.TheVariants.{Replace, Exchange, Fill}
 use Rattle.sheet.specs.declared.Sheet.{Sheet}
 use Rattle.sheet.specs.declared.Repaired.{Repaired}
 
 -- a sheet's 34 bytes with the check digits filled in
-unfoldable pub filledBytes : Sheet → List ℕ
-filledBytes s =
-    stamped s.text (digitsPlace s.kind) (checkDigits (remainderBy s.kind (take s.length (stamped s.text (digitsPlace s.kind) 0))))
+unfoldable pub filled_bytes : Sheet → List ℕ
+filled_bytes s =
+    stamped s.text (digits_place s.kind) (check_digits (remainder_by s.kind (take s.length (stamped s.text (digits_place s.kind) 0))))
 
 -- .. with a repair made as asked
-unfoldable pub askedBytes : Sheet → Request → List ℕ
-askedBytes s (Replace place byte) = set s.text place byte
-askedBytes s (Exchange i j) = exchanged s.text i j
-askedBytes s Fill = filledBytes s
+unfoldable pub asked_bytes : Sheet → Request → List ℕ
+asked_bytes s (Replace place byte) = set s.text place byte
+asked_bytes s (Exchange i j) = exchanged s.text i j
+asked_bytes s Fill = filled_bytes s
 
 -- the refusals before the new text, with places tested against the length that the sheet names
-abbrev pub firstSteps : Sheet → Request → Step
-firstSteps s q = sheetStep s and_then givenSteps s.length q
+abbrev pub first_steps : Sheet → Request → Step
+first_steps s q = sheet_step s and_then given_steps s.length q
 
 -- the repair to a new text, after the step on that text: a load of it
-unfoldable pub renewedBy : Step → Sheet → List ℕ → Repaired
-renewedBy Pass s t = load_of s.kind t s
-renewedBy (Stop r k) s t = refusal s r k
+unfoldable pub renewed_by : Step → Sheet → List ℕ → Repaired
+renewed_by Pass s t = load_of s.kind t s
+renewed_by (Stop r k) s t = refusal s r k

@@ -2,9 +2,9 @@
 ghost use Rattle.std.specs.Prelude.{◌≡◌, set};
 ghost use Rattle.checkdigit.specs.Sum.{exchanged};
 ghost use Rattle.checkdigit.specs.Fill.{stamped};
-ghost use Rattle.sheet.specs.Sheets.{digitsPlace};
-ghost use Rattle.repairs.specs.Repairs.{placeStep, byteStep, textStep, givenSteps, sheetStep, repairOf};
-ghost use Rattle.repairs.specs.Inner.{filledBytes, askedBytes, firstSteps, renewedBy};
+ghost use Rattle.sheet.specs.Sheets.{digits_place};
+ghost use Rattle.repairs.specs.Repairs.{place_step, byte_step, text_step, given_steps, sheet_step, repair_of};
+ghost use Rattle.repairs.specs.Inner.{filled_bytes, asked_bytes, first_steps, renewed_by};
 
 use answer::{Reason, Step};
 use sheet::{Repaired, Sheet};
@@ -19,7 +19,7 @@ pub enum Request {
 }
 
 fn sheet_step(sheet: Sheet) -> Step
-    ensures { result ≡ sheetStep sheet }
+    ensures { result ≡ sheet_step sheet }
 {
     if sheet::stands(sheet) {
         return Step::Pass;
@@ -28,7 +28,7 @@ fn sheet_step(sheet: Sheet) -> Step
 }
 
 fn place_step(length: usize, place: usize) -> Step
-    ensures { result ≡ placeStep length place }
+    ensures { result ≡ place_step length place }
 {
     if place < length {
         return Step::Pass;
@@ -42,7 +42,7 @@ fn place_step(length: usize, place: usize) -> Step
 }
 
 fn byte_step(place: usize, byte: u8) -> Step
-    ensures { result ≡ byteStep place byte }
+    ensures { result ≡ byte_step place byte }
 {
     if text::allows(Set::LettersDigits, byte) {
         return Step::Pass;
@@ -52,7 +52,7 @@ fn byte_step(place: usize, byte: u8) -> Step
 
 // What a request gives, before it is made: its places and its byte.
 fn given_steps(length: usize, request: Request) -> Step
-    ensures { result ≡ givenSteps length request }
+    ensures { result ≡ given_steps length request }
 {
     match request {
         Request::Replace { place, byte } => place_step(length, place).then(byte_step(place, byte)),
@@ -62,7 +62,7 @@ fn given_steps(length: usize, request: Request) -> Step
 }
 
 fn text_step(kind: u16, t: &[u8]) -> Step
-    ensures { result ≡ textStep kind t.now }
+    ensures { result ≡ text_step kind t.now }
 {
     match sheet::characters(kind, t) {
         Step::Pass => Step::Pass,
@@ -98,21 +98,21 @@ fn swap(text: [u8; 34], i: usize, j: usize) -> [u8; 34]
 }
 
 fn digits_place(kind: u16) -> usize
-    ensures { result ≡ digitsPlace kind }
+    ensures { result ≡ digits_place kind }
 {
     if kind == 1 { 2 } else { 18 }
 }
 
 // A number's two digits, in the check digits' places.
 fn stamp(kind: u16, text: [u8; 34], d: u8) -> [u8; 34]
-    ensures { result ≡ stamped text (digitsPlace kind) d }
+    ensures { result ≡ stamped text (digits_place kind) d }
 {
     let place = digits_place(kind);
     put(put(text, place, 48 + d / 10), place + 1, 48 + d % 10)
 }
 
 fn filled(sheet: Sheet) -> [u8; 34]
-    ensures { result ≡ filledBytes sheet }
+    ensures { result ≡ filled_bytes sheet }
 {
     let kind = sheet.kind;
     let text = sheet.text;
@@ -126,7 +126,7 @@ fn filled(sheet: Sheet) -> [u8; 34]
 
 // A sheet's 34 bytes with the repair made as asked.
 fn asked(sheet: Sheet, request: Request) -> [u8; 34]
-    ensures { result ≡ askedBytes sheet request }
+    ensures { result ≡ asked_bytes sheet request }
 {
     let text = sheet.text;
     match request {
@@ -138,7 +138,7 @@ fn asked(sheet: Sheet, request: Request) -> [u8; 34]
 
 // The repair to a new text: refused where it breaks a character step, and else loaded.
 fn renewed(sheet: Sheet, t: &[u8]) -> Repaired
-    ensures { result ≡ renewedBy (textStep sheet.kind t.now) sheet t.now }
+    ensures { result ≡ renewed_by (text_step sheet.kind t.now) sheet t.now }
 {
     match text_step(sheet.kind, t) {
         Step::Pass => sheet::load(sheet.kind, t, sheet),
@@ -148,13 +148,13 @@ fn renewed(sheet: Sheet, t: &[u8]) -> Repaired
 
 // The refusals that come before the new text: 20, then those of what the request gives.
 fn first_steps(sheet: Sheet, request: Request) -> Step
-    ensures { result ≡ firstSteps sheet request }
+    ensures { result ≡ first_steps sheet request }
 {
     sheet_step(sheet).then(given_steps(sheet.length, request))
 }
 
 pub fn repair(sheet: Sheet, request: Request) -> Repaired
-    ensures { result ≡ repairOf sheet request }
+    ensures { result ≡ repair_of sheet request }
 {
     match first_steps(sheet, request) {
         Step::Pass => {
@@ -166,19 +166,19 @@ pub fn repair(sheet: Sheet, request: Request) -> Repaired
 }
 
 pub fn replace(sheet: Sheet, place: usize, byte: u8) -> Repaired
-    ensures { result ≡ repairOf sheet (Request.Replace place byte) }
+    ensures { result ≡ repair_of sheet (Request.Replace place byte) }
 {
     repair(sheet, Request::Replace { place, byte })
 }
 
 pub fn exchange(sheet: Sheet, i: usize, j: usize) -> Repaired
-    ensures { result ≡ repairOf sheet (Request.Exchange i j) }
+    ensures { result ≡ repair_of sheet (Request.Exchange i j) }
 {
     repair(sheet, Request::Exchange { i, j })
 }
 
 pub fn fill(sheet: Sheet) -> Repaired
-    ensures { result ≡ repairOf sheet Request.Fill }
+    ensures { result ≡ repair_of sheet Request.Fill }
 {
     repair(sheet, Request::Fill)
 }

@@ -9,33 +9,33 @@ use borrow.Author.Tests.{lt-ltb, le-ltb, ltb-true, ltb-false}
 use lib.Dec.{ltb}
 use lib.ListN.{length, drop, set, length-append, length-set}
 use lib.Seq.{drop-length, drop-cons, drop-set-lt, get_or-set_same, set_split}
-use Rattle.report.specs.Digits.{decimalDigitsIn, decimalDigits}
+use Rattle.report.specs.Digits.{decimal_digits_in, decimal_digits}
 
 -- the bound on the steps does not matter once it is enough
-same : (k j x : ℕ) → x ≤ k → x ≤ j → decimalDigitsIn k (ltb x 10) x ≡ decimalDigitsIn j (ltb x 10) x
-unfolding decimalDigitsIn
+same : (k j x : ℕ) → x ≤ k → x ≤ j → decimal_digits_in k (ltb x 10) x ≡ decimal_digits_in j (ltb x 10) x
+unfolding decimal_digits_in
 same zero zero x p q = refl
 same zero (suc j) x p q = rw (lt-ltb x 10 (omega arith))
 same (suc k) zero x p q = rw (lt-ltb x 10 (omega arith))
 same (suc k) (suc j) x p q = go (ltb x 10) refl (same k j (x / 10))
   where
-    go : (b : Bool) → ltb x 10 ≡ b → (x / 10 ≤ k → x / 10 ≤ j → decimalDigitsIn k (ltb (x / 10) 10) (x / 10) ≡ decimalDigitsIn j (ltb (x / 10) 10) (x / 10))
-        → decimalDigitsIn (suc k) b x ≡ decimalDigitsIn (suc j) b x
+    go : (b : Bool) → ltb x 10 ≡ b → (x / 10 ≤ k → x / 10 ≤ j → decimal_digits_in k (ltb (x / 10) 10) (x / 10) ≡ decimal_digits_in j (ltb (x / 10) 10) (x / 10))
+        → decimal_digits_in (suc k) b x ≡ decimal_digits_in (suc j) b x
     go true e ih = refl
     go false e ih = let h = ltb-false x 10 e in rw (ih (omega arith) (omega arith))
 
-pub small : (x : ℕ) → x < 10 → decimalDigits x ≡ (48 + x) ∷ []
-unfolding decimalDigits decimalDigitsIn
+pub small : (x : ℕ) → x < 10 → decimal_digits x ≡ (48 + x) ∷ []
+unfolding decimal_digits decimal_digits_in
 small x h = same x (suc x) x (omega arith) (omega arith) ∙ rw (lt-ltb x 10 h)
 
-pub more : (x : ℕ) → 10 ≤ x → decimalDigits x ≡ decimalDigits (x / 10) ++ ((48 + x % 10) ∷ [])
-unfolding decimalDigits decimalDigitsIn
+pub more : (x : ℕ) → 10 ≤ x → decimal_digits x ≡ decimal_digits (x / 10) ++ ((48 + x % 10) ∷ [])
+unfolding decimal_digits decimal_digits_in
 more x h =
     same x (suc x) x (omega arith) (omega arith) ∙ rw (le-ltb x 10 h, same x (x / 10) (x / 10) (omega arith) (omega arith))
 
 -- a statement of every number holds if it does below 10, and from 10 on where it does of the tenth part
-pub by-tens : (P : ℕ → Type 0) → ((x : ℕ) → x < 10 → P x) → ((x : ℕ) → 10 ≤ x → P (x / 10) → P x) → (x : ℕ) → P x
-by-tens P one ten x = go x x (omega arith)
+pub by_tens : (P : ℕ → Type 0) → ((x : ℕ) → x < 10 → P x) → ((x : ℕ) → 10 ≤ x → P (x / 10) → P x) → (x : ℕ) → P x
+by_tens P one ten x = go x x (omega arith)
   where
     go : (k x : ℕ) → x ≤ k → P x
     go zero x h = one x (omega arith)
@@ -45,51 +45,51 @@ by-tens P one ten x = go x x (omega arith)
         on true e ih = one x (ltb-true x 10 e)
         on false e ih = let l = ltb-false x 10 e in ten x l (ih (omega arith))
 
-pub one : (x : ℕ) → x < 10 → length (decimalDigits x) ≡ 1
+pub one : (x : ℕ) → x < 10 → length (decimal_digits x) ≡ 1
 one x h = ap length (small x h)
 
-pub one_more : (x : ℕ) → 10 ≤ x → length (decimalDigits x) ≡ length (decimalDigits (x / 10)) + 1
-one_more x h = rw (more x h) (length-append (decimalDigits (x / 10)) ((48 + x % 10) ∷ []))
+pub one_more : (x : ℕ) → 10 ≤ x → length (decimal_digits x) ≡ length (decimal_digits (x / 10)) + 1
+one_more x h = rw (more x h) (length-append (decimal_digits (x / 10)) ((48 + x % 10) ∷ []))
 
-pub least : (x : ℕ) → 1 ≤ length (decimalDigits x)
+pub least : (x : ℕ) → 1 ≤ length (decimal_digits x)
 least =
-    by-tens (λ x. 1 ≤ length (decimalDigits x)) (λ x h. rw (one x h) (omega arith)) (λ x h i. rw (one_more x h) (omega arith))
+    by_tens (λ x. 1 ≤ length (decimal_digits x)) (λ x h. rw (one x h) (omega arith)) (λ x h i. rw (one_more x h) (omega arith))
 
 -- a number below a power of ten has no more digits than that
-pub most : (k x : ℕ) → x < 10 ^ suc k → length (decimalDigits x) ≤ suc k
+pub most : (k x : ℕ) → x < 10 ^ suc k → length (decimal_digits x) ≤ suc k
 most zero x h = rw (one x (omega arith)) (omega arith)
 most (suc k) x h =
     let p : 10 ^ suc (suc k) ≡ 10 ^ suc k * 10 = pow-suc 10 (suc k) in
     go (most k (x / 10) (omega arith)) (ltb x 10) refl
   where
-    go : length (decimalDigits (x / 10)) ≤ suc k → (b : Bool) → ltb x 10 ≡ b → length (decimalDigits x) ≤ suc (suc k)
+    go : length (decimal_digits (x / 10)) ≤ suc k → (b : Bool) → ltb x 10 ≡ b → length (decimal_digits x) ≤ suc (suc k)
     go i true e = rw (one x (ltb-true x 10 e)) (omega arith)
     go i false e = rw (one_more x (ltb-false x 10 e)) (omega arith)
 
 -- the digits of what is left, and then those that are written
 pub record Spelling (x : ℕ) (d : List ℕ) (i rest : ℕ) : Type 0 where
-  pub left : i ≡ length (decimalDigits rest)
-  pub size : length d ≡ length (decimalDigits x)
-  pub is : decimalDigits x ≡ decimalDigits rest ++ drop i d
+  pub left : i ≡ length (decimal_digits rest)
+  pub size : length d ≡ length (decimal_digits x)
+  pub is : decimal_digits x ≡ decimal_digits rest ++ drop i d
 
-pub spell-start : (x : ℕ) (d : List ℕ) → length d ≡ length (decimalDigits x) → Spelling x d (length d) x
-spell-start x d h =
-    record { left = h; size = h; is = rw (drop-length d) (sym (append-nil (decimalDigits x))) }
+pub spell_start : (x : ℕ) (d : List ℕ) → length d ≡ length (decimal_digits x) → Spelling x d (length d) x
+spell_start x d h =
+    record { left = h; size = h; is = rw (drop-length d) (sym (append-nil (decimal_digits x))) }
 
 module _ (x : ℕ) (d : List ℕ) (i rest : ℕ) (g : Spelling x d i rest) where
-  pub spell-inside : (1 ≤ i) × (i ≤ length d)
-  spell-inside =
-      let a = length-append (decimalDigits rest) (drop i d) in
+  pub spell_inside : (1 ≤ i) × (i ≤ length d)
+  spell_inside =
+      let a = length-append (decimal_digits rest) (drop i d) in
       (omega (arith, least rest, g.left), omega (arith, g.left, g.size, a, ap length g.is))
 
   -- one digit more
-  pub spell-on : 10 ≤ rest → Spelling x (set d (i - 1) (48 + rest % 10)) (i - 1) (rest / 10)
-  spell-on h =
-      let k : suc (i - 1) ≡ i = omega (arith, spell-inside) in
+  pub spell_on : 10 ≤ rest → Spelling x (set d (i - 1) (48 + rest % 10)) (i - 1) (rest / 10)
+  spell_on h =
+      let k : suc (i - 1) ≡ i = omega (arith, spell_inside) in
       let b : ℕ = 48 + rest % 10 in
       let w : drop (i - 1) (set d (i - 1) b) ≡ b ∷ drop i d =
-      drop-cons (set d (i - 1) b) (i - 1) 0 (rw length-set (omega (arith, spell-inside)))
-      ∙ rw (get_or-set_same d (i - 1) b 0 (omega (arith, spell-inside)), drop-set-lt (suc (i - 1)) d (i - 1) b (omega arith), k) in
+      drop-cons (set d (i - 1) b) (i - 1) 0 (rw length-set (omega (arith, spell_inside)))
+      ∙ rw (get_or-set_same d (i - 1) b 0 (omega (arith, spell_inside)), drop-set-lt (suc (i - 1)) d (i - 1) b (omega arith), k) in
       record {
         left = omega (arith, g.left, one_more rest h);
         size = rw length-set g.size;
@@ -97,7 +97,7 @@ module _ (x : ℕ) (d : List ℕ) (i rest : ℕ) (g : Spelling x d i rest) where
       }
 
   -- the first digit, the last to be written
-  pub spell-end : rest < 10 → set d 0 (48 + rest) ≡ decimalDigits x
-  spell-end h =
+  pub spell_end : rest < 10 → set d 0 (48 + rest) ≡ decimal_digits x
+  spell_end h =
       let e : i ≡ 1 = g.left ∙ one rest h in
-      set_split d 0 (48 + rest) (omega (arith, spell-inside)) ∙ sym (g.is ∙ rw (small rest h, e))
+      set_split d 0 (48 + rest) (omega (arith, spell_inside)) ∙ sym (g.is ∙ rw (small rest h, e))

@@ -10,8 +10,8 @@ use lib.ListN.{length, get_or, take, drop, set, length-append, length-drop}
 use lib.Seq.{take-length, take_at, set_at, sets-eq, drop-cons, drop-drop, drop-append-add, length-take-le}
 use Rattle.text.specs.Quote.{bytes_of}
 use Rattle.record.proofs.Parts.{to_end, past_end}
-use Rattle.report.specs.Digits.{decimalDigits}
-use Rattle.report.specs.Text.{field, numbersLine, named, lastLine, at_start, lastMost, placed, ended}
+use Rattle.report.specs.Digits.{decimal_digits}
+use Rattle.report.specs.Text.{field, numbers_line, named, last_line, at_start, last_most, placed, ended}
 use Rattle.report.specs.Inner.{put, Put}
 use Rattle.report.proofs.Digits.{small, most}
 
@@ -51,65 +51,65 @@ then at s t out₀ out₁ out₂ a b h p q =
 pub put-start : (t out₀ out : List ℕ) (r : ℕ) → Put 0 t out₀ out r → placed r out ≡ placed (length t) (at_start t out₀)
 put-start t out₀ out r p = rw (p.end, p.is, zero-add (length t))
 
-pub length-field : (x after : ℕ) → length (field x after) ≡ length (decimalDigits x) + 1
+pub length-field : (x after : ℕ) → length (field x after) ≡ length (decimal_digits x) + 1
 unfolding field
-length-field x after = length-append (decimalDigits x) (after ∷ [])
+length-field x after = length-append (decimal_digits x) (after ∷ [])
 
 pub field-most : (x after : ℕ) → x < 2 ^ 64 → length (field x after) ≤ 21
 field-most x after h = omega (arith, length-field x after, most 19 x (omega arith))
 
 -- a part of a buffer, as `&mut out[at..end]` gives it back
-abbrev pub part-back : ℕ → ℕ → List ℕ → List ℕ → List ℕ
-part-back at n last out = take at out ++ (last ++ drop n (drop at out))
+abbrev pub part_back : ℕ → ℕ → List ℕ → List ℕ → List ℕ
+part_back at n last out = take at out ++ (last ++ drop n (drop at out))
 
 -- a field in a buffer
 module _ (at x after : ℕ) (out : List ℕ) (fits : at + length (field x after) ≤ length out) where
-  room : at + length (decimalDigits x) < length out
+  room : at + length (decimal_digits x) < length out
   room = omega (arith, length-field x after)
 
   -- of one digit
-  pub field-one : x < 10 → Put at (field x after) out (set (set out at (48 + x)) (at + 1) after) (at + 2)
+  pub field_one : x < 10 → Put at (field x after) out (set (set out at (48 + x)) (at + 1) after) (at + 2)
   unfolding field
-  field-one h =
-      let e : decimalDigits x ≡ (48 + x) ∷ [] = small x h in
+  field_one h =
+      let e : decimal_digits x ≡ (48 + x) ∷ [] = small x h in
       record {
         end = rw e;
         is = rw (e, add-one) (sets-eq ((48 + x) ∷ after ∷ []) out at (rw e at fits) ∙ simp append_assoc);
       }
 
   -- of several, whose place is lent
-  module _ (w : ℕ) (last : List ℕ) (h : w ≡ length (decimalDigits x)) (q : last ≡ decimalDigits x) where
-    mid : part-back at (at + w - at) last out ≡ put at (decimalDigits x) out
-    mid = let e : at + w - at ≡ length (decimalDigits x) = omega arith in rw (e, q) (simp drop-drop)
+  module _ (w : ℕ) (last : List ℕ) (h : w ≡ length (decimal_digits x)) (q : last ≡ decimal_digits x) where
+    mid : part_back at (at + w - at) last out ≡ put at (decimal_digits x) out
+    mid = let e : at + w - at ≡ length (decimal_digits x) = omega arith in rw (e, q) (simp drop-drop)
 
-    pub field-inside : at + w < length (part-back at (at + w - at) last out)
-    field-inside = rw (mid, h, length-put at (decimalDigits x) out (omega (arith, room))) room
+    pub field-inside : at + w < length (part_back at (at + w - at) last out)
+    field-inside = rw (mid, h, length-put at (decimal_digits x) out (omega (arith, room))) room
 
-    pub field-more : Put at (field x after) out (set (part-back at (at + w - at) last out) (at + w) after) (at + w + 1)
+    pub field-more : Put at (field x after) out (set (part_back at (at + w - at) last out) (at + w) after) (at + w + 1)
     unfolding field
     field-more =
         record {
-          end = omega (arith, h, length-append (decimalDigits x) (after ∷ []));
-          is = rw (mid, h) (put_byte at (decimalDigits x) out after room);
+          end = omega (arith, h, length-append (decimal_digits x) (after ∷ []));
+          is = rw (mid, h) (put_byte at (decimal_digits x) out after room);
         }
 
 -- a row has room, and is written number by number
 pub record Room (at : ℕ) (xs out : List ℕ) : Type 0 where
-  pub is : at + length (numbersLine xs) ≤ length out
+  pub is : at + length (numbers_line xs) ≤ length out
 
 pub row_first : {at x y : ℕ} {xs out : List ℕ} → Room at (x ∷ y ∷ xs) out → at + length (field x 32) ≤ length out
-unfolding numbersLine
-row_first {at} {x} {y} {xs} h = omega (arith, h.is, length-append (field x 32) (numbersLine (y ∷ xs)))
+unfolding numbers_line
+row_first {at} {x} {y} {xs} h = omega (arith, h.is, length-append (field x 32) (numbers_line (y ∷ xs)))
 
-pub row-rest : {at x y a : ℕ} {xs out out₁ : List ℕ} → Room at (x ∷ y ∷ xs) out → Put at (field x 32) out out₁ a → Room a (y ∷ xs) out₁
-unfolding numbersLine
-row-rest {at} {x} {y} {a} {xs} {out} h p =
+pub row_rest : {at x y a : ℕ} {xs out out₁ : List ℕ} → Room at (x ∷ y ∷ xs) out → Put at (field x 32) out out₁ a → Room a (y ∷ xs) out₁
+unfolding numbers_line
+row_rest {at} {x} {y} {a} {xs} {out} h p =
     record {
       is =
           omega (
             arith,
             h.is,
-            length-append (field x 32) (numbersLine (y ∷ xs)),
+            length-append (field x 32) (numbers_line (y ∷ xs)),
             p.end,
             ap length p.is,
             length-put at (field x 32) out (row_first h),
@@ -117,17 +117,17 @@ row-rest {at} {x} {y} {a} {xs} {out} h p =
     }
 
 pub row_last : {at x : ℕ} {out : List ℕ} → Room at (x ∷ []) out → at + length (field x 10) ≤ length out
-unfolding numbersLine
+unfolding numbers_line
 row_last h = h.is
 
 pub row-then : {at x y a b : ℕ} {xs out out₁ out₂ : List ℕ} → Room at (x ∷ y ∷ xs) out → Put at (field x 32) out out₁ a
-    → Put a (numbersLine (y ∷ xs)) out₁ out₂ b → Put at (numbersLine (x ∷ y ∷ xs)) out out₂ b
-unfolding numbersLine
+    → Put a (numbers_line (y ∷ xs)) out₁ out₂ b → Put at (numbers_line (x ∷ y ∷ xs)) out out₂ b
+unfolding numbers_line
 row-then h p q = then _ _ _ _ _ _ _ _ (row_first h) p q
 
 -- a word that `bytes::copy` wrote
 pub put_word : (at : ℕ) (word out last : List ℕ) → last ≡ take (length word) word ++ drop (length word) (take (length out - at) (drop at out))
-    → Put at word out (part-back at (length out - at) last out) (at + length word)
+    → Put at word out (part_back at (length out - at) last out) (at + length word)
 put_word at word out last q = record { end = refl; is = rw (past_end, q, to_end) (simp (append-nil, take-length, drop-drop)) }
 
 -- and the number after it
@@ -144,17 +144,17 @@ module _ (at x after : ℕ) (word out out₁ : List ℕ) (small : x < 2 ^ 64) (f
 
 -- the last line, where it has no room, and part by part where it has
 module _ (stop judged read : ℕ) (out : List ℕ) where
-  pub no_last : length out < lastMost → placed 0 out ≡ ended out stop judged read
+  pub no_last : length out < last_most → placed 0 out ≡ ended out stop judged read
   unfolding ended
-  no_last h = rw (lt-ltb (length out) lastMost h)
+  no_last h = rw (lt-ltb (length out) last_most h)
 
-  pub last_line : (a b r : ℕ) (out₁ out₂ out₃ : List ℕ) → lastMost ≤ length out
+  pub last_line_lem : (a b r : ℕ) (out₁ out₂ out₃ : List ℕ) → last_most ≤ length out
       → Put 0 (named (bytes_of "stop ") stop 32) out out₁ a → a ≤ 0 + 5 + 21
       → Put a (named (bytes_of "judged ") judged 32) out₁ out₂ b → b ≤ a + 7 + 21
       → Put b (named (bytes_of "read ") read 10) out₂ out₃ r → placed r out₃ ≡ ended out stop judged read
-  unfolding ended lastLine
-  last_line a b r out₁ out₂ out₃ h p l q m s =
+  unfolding ended last_line
+  last_line_lem a b r out₁ out₂ out₃ h p l q m s =
       let f : 0 + length (named (bytes_of "stop ") stop 32) ≤ length out = omega (arith, p.end) in
       let g : a + length (named (bytes_of "judged ") judged 32) ≤ length out₁ =
       omega (arith, q.end, ap length p.is, length-put 0 (named (bytes_of "stop ") stop 32) out f) in
-      rw (le-ltb (length out) lastMost h) (put-start _ out out₃ r (then 0 _ _ out out₁ out₃ a r f p (then a _ _ out₁ out₂ out₃ b r g q s)))
+      rw (le-ltb (length out) last_most h) (put-start _ out out₃ r (then 0 _ _ out out₁ out₃ a r f p (then a _ _ out₁ out₂ out₃ b r g q s)))

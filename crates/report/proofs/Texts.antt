@@ -3,7 +3,7 @@ use Prim.Native.Nat.{ℕ, zero, suc, ◌+◌, ◌-◌, ◌*◌, ◌/◌, ◌≤�
 use mathlib.Core.Path.{◌≡◌, refl, ap, ◌∙◌}
 use mathlib.Core.Bool.{Bool, true, false, cond}
 use mathlib.Core.List.{List, [], ◌∷◌, ◌++◌, append_assoc, append-nil}
-use native.Mathlib.Nat.{zero-add, sub-zero}
+use native.Mathlib.Nat.{zero-add, sub_zero}
 use native.Mathlib.Numerals.{add-one}
 use native.Mathlib.Omega.{arith}
 use borrow.Author.Tests.{lt-ltb, le-ltb}
@@ -13,25 +13,25 @@ use lib.Seq.{take_at, drop-append-le, drop-drop}
 use Rattle.record.specs.Number.{Bytes}
 use Rattle.record.proofs.Parts.{to_end}
 use Rattle.record.proofs.Numbers.{bytes_drop}
-use Rattle.verdict.specs.Verdict.{verdictSize, readVerdict}
+use Rattle.verdict.specs.Verdict.{verdict_size, read_verdict}
 use Rattle.verdict.specs.declared.Verdict.{Verdict}
 use Rattle.verdict.proofs.Verdicts.{read-front, read-most}
 use Rattle.report.specs.declared.Rendered.{Rendered}
 use Rattle.report.specs.Text.{
   numbers,
   field,
-  numbersLine,
-  verdictLine,
-  verdictLines,
-  lastLine,
+  numbers_line,
+  verdict_line,
+  verdict_lines,
+  last_line,
   at_start,
-  lineMost,
-  lastMost,
+  line_most,
+  last_most,
   fitting,
   Rendering,
   rendering,
   rendered,
-  renderingOf,
+  rendering_of,
   Placed,
   placed,
   ended,
@@ -41,50 +41,50 @@ use Rattle.report.proofs.Digits.{most}
 use Rattle.report.proofs.Puts.{length-field, then}
 
 -- the row of what a verdict says is its line
-pub line-is : (d : Verdict) (v : List ℕ) → d ≡ readVerdict v → numbersLine (numbers d) ≡ verdictLine v
-unfolding verdictLine
-line-is d v e = ap (λ (x : Verdict). numbersLine (numbers x)) e
+pub line_is : (d : Verdict) (v : List ℕ) → d ≡ read_verdict v → numbers_line (numbers d) ≡ verdict_line v
+unfolding verdict_line
+line_is d v e = ap (λ (x : Verdict). numbers_line (numbers x)) e
 
-pub text-snoc : (k : ℕ) (v : List ℕ) → verdictLines (suc k) v ≡ verdictLines k v ++ verdictLine (drop (verdictSize * k) v)
-unfolding verdictLines
-text-snoc zero v = append-nil (verdictLine v)
-text-snoc (suc k) v =
-    let e : verdictSize + verdictSize * k ≡ verdictSize * suc k = omega arith in
-    ap (λ (l : List ℕ). verdictLine v ++ l) (text-snoc k (drop verdictSize v)) ∙ simp (append_assoc, drop-drop, e)
+pub text_snoc : (k : ℕ) (v : List ℕ) → verdict_lines (suc k) v ≡ verdict_lines k v ++ verdict_line (drop (verdict_size * k) v)
+unfolding verdict_lines
+text_snoc zero v = append-nil (verdict_line v)
+text_snoc (suc k) v =
+    let e : verdict_size + verdict_size * k ≡ verdict_size * suc k = omega arith in
+    ap (λ (l : List ℕ). verdict_line v ++ l) (text_snoc k (drop verdict_size v)) ∙ simp (append_assoc, drop-drop, e)
 
 -- a line needs its verdict only
-pub line-front : (v w : List ℕ) → verdictSize ≤ length v → verdictLine (v ++ w) ≡ verdictLine v
-unfolding verdictLine
-line-front v w h = rw (read-front v w h)
+pub line_front : (v w : List ℕ) → verdict_size ≤ length v → verdict_line (v ++ w) ≡ verdict_line v
+unfolding verdict_line
+line_front v w h = rw (read-front v w h)
 
 no_bytes : (v : List ℕ) → length v ≡ 0 → v ≡ []
 no_bytes [] h = refl
 no_bytes (x ∷ v) h = absurd (omega arith)
 
 -- the lines of verdicts and then of others
-pub text-append : (j k : ℕ) (v w : List ℕ) → length v ≡ verdictSize * j → verdictLines (j + k) (v ++ w) ≡ verdictLines j v ++ verdictLines k w
-unfolding verdictLines
+pub text-append : (j k : ℕ) (v w : List ℕ) → length v ≡ verdict_size * j → verdict_lines (j + k) (v ++ w) ≡ verdict_lines j v ++ verdict_lines k w
+unfolding verdict_lines
 text-append zero k v w h = rw (zero-add, no_bytes v (omega arith))
 text-append (suc j) k v w h =
     let e : suc j + k ≡ suc (j + k) = omega arith in
     rw (
       e,
-      line-front v w (omega arith),
-      drop-append-le verdictSize v w (omega arith),
-      text-append j k (drop verdictSize v) w (omega (arith, length-drop verdictSize v)),
+      line_front v w (omega arith),
+      drop-append-le verdict_size v w (omega arith),
+      text-append j k (drop verdict_size v) w (omega (arith, length-drop verdict_size v)),
     )
     (simp append_assoc)
 
 length-row : (a b c d e : ℕ)
-    → length (numbersLine (a ∷ b ∷ c ∷ d ∷ e ∷ []))
+    → length (numbers_line (a ∷ b ∷ c ∷ d ∷ e ∷ []))
     ≡ length (field a 32) + (length (field b 32) + (length (field c 32) + (length (field d 32) + length (field e 10))))
-unfolding numbersLine
+unfolding numbers_line
 length-row a b c d e = simp length-append
 
-pub line-most : (v : List ℕ) → Bytes v → length (verdictLine v) ≤ lineMost
-unfolding verdictLine
-line-most v b =
-    let d = readVerdict v in
+pub line_most_lem : (v : List ℕ) → Bytes v → length (verdict_line v) ≤ line_most
+unfolding verdict_line
+line_most_lem v b =
+    let d = read_verdict v in
     let m = read-most v b in
     omega (
       arith,
@@ -102,28 +102,28 @@ line-most v b =
     )
 
 -- how many lines have room
-pub fit_none : (n room : ℕ) (v : List ℕ) → room < lineMost → fitting n room v ≡ 0
+pub fit_none : (n room : ℕ) (v : List ℕ) → room < line_most → fitting n room v ≡ 0
 unfolding fitting
 fit_none zero room v h = refl
-fit_none (suc n) room v h = rw (lt-ltb room lineMost h)
+fit_none (suc n) room v h = rw (lt-ltb room line_most h)
 
-pub fit_on : (n room : ℕ) (v : List ℕ) → lineMost ≤ room
-    → fitting (suc n) room v ≡ suc (fitting n (room - length (verdictLine v)) (drop verdictSize v))
+pub fit_on : (n room : ℕ) (v : List ℕ) → line_most ≤ room
+    → fitting (suc n) room v ≡ suc (fitting n (room - length (verdict_line v)) (drop verdict_size v))
 unfolding fitting
-fit_on n room v h = rw (le-ltb room lineMost h)
+fit_on n room v h = rw (le-ltb room line_most h)
 
 -- where there is room for the longest lines, all are written
-pub fit_all : (n room : ℕ) (v : List ℕ) → Bytes v → lineMost * n ≤ room → fitting n room v ≡ n
+pub fit_all : (n room : ℕ) (v : List ℕ) → Bytes v → line_most * n ≤ room → fitting n room v ≡ n
 unfolding fitting
 fit_all zero room v b h = refl
 fit_all (suc n) room v b h =
     fit_on n room v (omega arith)
-    ∙ ap suc (fit_all n (room - length (verdictLine v)) (drop verdictSize v) (bytes_drop v verdictSize b) (omega (arith, line-most v b)))
+    ∙ ap suc (fit_all n (room - length (verdict_line v)) (drop verdict_size v) (bytes_drop v verdict_size b) (omega (arith, line_most_lem v b)))
 
-pub rendered-all : (j : ℕ) (v out : List ℕ) → Bytes v → length v ≡ verdictSize * j → lineMost * j ≤ length out → rendered v out ≡ rendering j v out
+pub rendered-all : (j : ℕ) (v out : List ℕ) → Bytes v → length v ≡ verdict_size * j → line_most * j ≤ length out → rendered v out ≡ rendering j v out
 unfolding rendered
 rendered-all j v out b h f =
-    let e : length v / verdictSize ≡ j = omega arith in
+    let e : length v / verdict_size ≡ j = omega arith in
     rw (e, fit_all j (length out) v b f)
 
 -- a text at the start of a buffer stands at its front, and inside it where the buffer has kept its length
@@ -135,99 +135,99 @@ start-inside t out₀ out e h =
     omega (arith, ap length e, length-append t (drop (length t) out₀), length-drop (length t) out₀)
 
 -- what a call of `lines` has left, from its contract
-module _ (r : Rendered) (v out₀ out : List ℕ) (is : renderingOf r out ≡ rendered v out₀) where
-  abbrev lines-text : List ℕ
-  lines-text = verdictLines (fitting (length v / verdictSize) (length out₀) v) v
+module _ (r : Rendered) (v out₀ out : List ℕ) (is : rendering_of r out ≡ rendered v out₀) where
+  abbrev lines_text : List ℕ
+  lines_text = verdict_lines (fitting (length v / verdict_size) (length out₀) v) v
 
-  pub lines-front : take r.written out ≡ verdictLines r.verdicts v
+  pub lines_front : take r.written out ≡ verdict_lines r.verdicts v
   unfolding rendered
-  lines-front =
+  lines_front =
       rw (ap (λ (x : Rendering). x.verdicts) is, ap (λ (x : Rendering). x.written) is, ap (λ (x : Rendering). x.out) is)
-      (start-front lines-text out₀)
+      (start-front lines_text out₀)
 
-  pub lines-inside : length out ≡ length out₀ → r.written ≤ length out
+  pub lines_inside : length out ≡ length out₀ → r.written ≤ length out
   unfolding rendered
-  lines-inside h =
-      rw (ap (λ (x : Rendering). x.written) is) (start-inside lines-text out₀ out (ap (λ (x : Rendering). x.out) is) h)
+  lines_inside h =
+      rw (ap (λ (x : Rendering). x.written) is) (start-inside lines_text out₀ out (ap (λ (x : Rendering). x.out) is) h)
 
 -- and a call of `last_line`
 module _ (r stop judged read : ℕ) (out₀ out : List ℕ) (is : placed r out ≡ ended out₀ stop judged read) where
-  pub last-front : lastMost ≤ length out₀ → take r out ≡ lastLine stop judged read
+  pub last-front : last_most ≤ length out₀ → take r out ≡ last_line stop judged read
   unfolding ended
   last-front h =
-      let e : placed r out ≡ placed (length (lastLine stop judged read)) (at_start (lastLine stop judged read) out₀) =
-      rw (le-ltb (length out₀) lastMost h) at is in
-      rw (ap (λ (x : Placed). x.written) e, ap (λ (x : Placed). x.out) e) (start-front (lastLine stop judged read) out₀)
+      let e : placed r out ≡ placed (length (last_line stop judged read)) (at_start (last_line stop judged read) out₀) =
+      rw (le-ltb (length out₀) last_most h) at is in
+      rw (ap (λ (x : Placed). x.written) e, ap (λ (x : Placed). x.out) e) (start-front (last_line stop judged read) out₀)
 
   pub last-inside : length out ≡ length out₀ → r ≤ length out
   unfolding ended
-  last-inside h = go (ltb (length out₀) lastMost) is
+  last-inside h = go (ltb (length out₀) last_most) is
     where
       go : (b : Bool)
           → placed r out
-          ≡ cond b (placed 0 out₀) (placed (length (lastLine stop judged read)) (at_start (lastLine stop judged read) out₀)) → r ≤ length out
+          ≡ cond b (placed 0 out₀) (placed (length (last_line stop judged read)) (at_start (last_line stop judged read) out₀)) → r ≤ length out
       go true e = omega (arith, ap (λ (x : Placed). x.written) e)
       go false e =
           rw (ap (λ (x : Placed). x.written) e)
-          (start-inside (lastLine stop judged read) out₀ out (ap (λ (x : Placed). x.out) e) h)
+          (start-inside (last_line stop judged read) out₀ out (ap (λ (x : Placed). x.out) e) h)
 
 -- the loop of `lines`: the first k lines are written, and as many more will be as have room after them
 pub record Lining (v out₀ out : List ℕ) (k i at : ℕ) : Type 0 where
-  pub place : i ≡ verdictSize * k
+  pub place : i ≡ verdict_size * k
   pub within : i ≤ length v
   pub room : at ≤ length out₀
   pub same : length out ≡ length out₀
-  pub wrote : Put 0 (verdictLines k v) out₀ out at
-  pub rest : fitting (length v / verdictSize) (length out₀) v
-      ≡ k + fitting (length v / verdictSize - k) (length out₀ - at) (drop i v)
+  pub wrote : Put 0 (verdict_lines k v) out₀ out at
+  pub rest : fitting (length v / verdict_size) (length out₀) v
+      ≡ k + fitting (length v / verdict_size - k) (length out₀ - at) (drop i v)
 
-pub start-lines : (v out : List ℕ) → Lining v out out 0 0 0
-unfolding verdictLines
-start-lines v out =
+pub start_lines : (v out : List ℕ) → Lining v out out 0 0 0
+unfolding verdict_lines
+start_lines v out =
     record {
       place = refl;
       within = omega arith;
       room = omega arith;
       same = refl;
       wrote = record { end = refl; is = refl };
-      rest = simp (sub-zero, zero-add);
+      rest = simp (sub_zero, zero-add);
     }
 
 module _ (v out₀ out : List ℕ) (k i at : ℕ) (g : Lining v out₀ out k i at) where
-  end-lines : fitting (length v / verdictSize - k) (length out₀ - at) (drop i v) ≡ 0
-      → renderingOf (record { verdicts = k; written = at }) out ≡ rendered v out₀
+  end_lines : fitting (length v / verdict_size - k) (length out₀ - at) (drop i v) ≡ 0
+      → rendering_of (record { verdicts = k; written = at }) out ≡ rendered v out₀
   unfolding rendered
-  end-lines z =
-      let e : fitting (length v / verdictSize) (length out₀) v ≡ k = omega (arith, g.rest) in
-      rw (e, g.wrote.end, g.wrote.is, zero-add (length (verdictLines k v)))
+  end_lines z =
+      let e : fitting (length v / verdict_size) (length out₀) v ≡ k = omega (arith, g.rest) in
+      rw (e, g.wrote.end, g.wrote.is, zero-add (length (verdict_lines k v)))
 
   -- no whole verdict is left
-  pub no_more : length v - i < verdictSize → renderingOf (record { verdicts = k; written = at }) out ≡ rendered v out₀
+  pub no_more : length v - i < verdict_size → rendering_of (record { verdicts = k; written = at }) out ≡ rendered v out₀
   unfolding fitting
   no_more h =
-      let e : length v / verdictSize - k ≡ 0 = omega (arith, g.place) in
-      end-lines (rw e)
+      let e : length v / verdict_size - k ≡ 0 = omega (arith, g.place) in
+      end_lines (rw e)
 
   -- there is no room for a line
-  pub no_room : length out - at < lineMost → renderingOf (record { verdicts = k; written = at }) out ≡ rendered v out₀
-  no_room h = end-lines (fit_none _ _ (drop i v) (omega (arith, g.same)))
+  pub no_room : length out - at < line_most → rendering_of (record { verdicts = k; written = at }) out ≡ rendered v out₀
+  no_room h = end_lines (fit_none _ _ (drop i v) (omega (arith, g.same)))
 
-  module _ (bytes : Bytes v) (h : verdictSize ≤ length v - i) (free : lineMost ≤ length out - at) where
-    here : take (length v - i) (drop i v) ≡ drop (verdictSize * k) v
+  module _ (bytes : Bytes v) (h : verdict_size ≤ length v - i) (free : line_most ≤ length out - at) where
+    here : take (length v - i) (drop i v) ≡ drop (verdict_size * k) v
     here = to_end i v ∙ rw g.place
 
-    short : length (verdictLine (take (length v - i) (drop i v))) ≤ lineMost
-    short = rw here (line-most (drop (verdictSize * k) v) (bytes_drop v (verdictSize * k) bytes))
+    short : length (verdict_line (take (length v - i) (drop i v))) ≤ line_most
+    short = rw here (line_most_lem (drop (verdict_size * k) v) (bytes_drop v (verdict_size * k) bytes))
 
-    pub line-requires : at + length (verdictLine (take (length v - i) (drop i v))) ≤ length out
+    pub line-requires : at + length (verdict_line (take (length v - i) (drop i v))) ≤ length out
     line-requires = omega (arith, short)
 
-    pub line-again : (last : List ℕ) (r : ℕ) → length last ≡ length out → Put at (verdictLine (take (length v - i) (drop i v))) out last r
-        → Lining v out₀ last (k + 1) (i + verdictSize) r
-    line-again last r l p =
-        let n = length v / verdictSize in
+    pub line_again : (last : List ℕ) (r : ℕ) → length last ≡ length out → Put at (verdict_line (take (length v - i) (drop i v))) out last r
+        → Lining v out₀ last (k + 1) (i + verdict_size) r
+    line_again last r l p =
+        let n = length v / verdict_size in
         let a : n - k ≡ suc (n - (k + 1)) = omega (arith, g.place) in
-        let b : length out₀ - at - length (verdictLine (drop i v)) ≡ length out₀ - r = omega (arith, rw to_end at p.end) in
+        let b : length out₀ - at - length (verdict_line (drop i v)) ≡ length out₀ - r = omega (arith, rw to_end at p.end) in
         let f = fit_on (n - (k + 1)) (length out₀ - at) (drop i v) (omega (arith, g.same)) in
         record {
           place = omega (arith, g.place);
@@ -235,7 +235,7 @@ module _ (v out₀ out : List ℕ) (k i at : ℕ) (g : Lining v out₀ out k i a
           room = omega (arith, p.end, line-requires, g.same);
           same = l ∙ g.same;
           wrote =
-              rw (add-one, text-snoc)
-              (then 0 (verdictLines k v) (verdictLine (drop (verdictSize * k) v)) out₀ out last at r (omega (arith, g.wrote.end, g.room)) g.wrote (rw here at p));
+              rw (add-one, text_snoc)
+              (then 0 (verdict_lines k v) (verdict_line (drop (verdict_size * k) v)) out₀ out last at r (omega (arith, g.wrote.end, g.room)) g.wrote (rw here at p));
           rest = g.rest ∙ rw (a, f, b, drop-drop) (omega arith);
         }

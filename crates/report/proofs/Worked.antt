@@ -4,20 +4,20 @@ use mathlib.Core.Path.{◌≡◌, refl}
 use mathlib.Core.List.{List, [], ◌∷◌, ◌++◌, map}
 use Rattle.answer.specs.declared.Answer.TheVariants.{Accepted}
 use Rattle.text.specs.Class.{class_of}
-use Rattle.text.specs.Decimal.{decimal, numberWritten, fitted}
+use Rattle.text.specs.Decimal.{decimal, number_written, fitted}
 use Rattle.text.specs.Quote.{bytes_of}
-use Rattle.verdict.specs.Verdict.{answerBytes, verdict, readVerdict}
+use Rattle.verdict.specs.Verdict.{answer_bytes, verdict, read_verdict}
 use Rattle.report.specs.declared.Offset.{Offset}
 use Rattle.report.specs.declared.Offset.TheVariants.{Is, Not}
-use Rattle.report.specs.Digits.{decimalDigitsIn, decimalDigits}
+use Rattle.report.specs.Digits.{decimal_digits_in, decimal_digits}
 use Rattle.report.specs.Text.{
   field,
-  numbersLine,
-  verdictLine,
-  verdictLines,
+  numbers_line,
+  verdict_line,
+  verdict_lines,
   heading,
   named,
-  lastLine,
+  last_line,
   fitting,
   Rendering,
   rendered,
@@ -33,10 +33,10 @@ verdicts = verdict 7 0 (Accepted 0) ++ verdict 9 6 (Accepted 100050)
 
 -- its whole text
 abbrev whole : List ℕ
-whole = heading ++ (verdictLines 2 verdicts ++ lastLine 0 2 17)
+whole = heading ++ (verdict_lines 2 verdicts ++ last_line 0 2 17)
 
 abbrev ends : List (List ℕ)
-ends = decimalDigits 0 ∷ decimalDigits 18446744073709551615 ∷ []
+ends = decimal_digits 0 ∷ decimal_digits 18446744073709551615 ∷ []
 
 -- n dots
 abbrev dots : ℕ → List ℕ
@@ -63,5 +63,5 @@ pub worked : (whole ≡ bytes_of "offset kind answer place number\n0 7 0 0 0\n6 
     ∷ [])
     × (lasts ≡ placed 0 (dots 79) ∷ placed 24 (bytes_of "stop 0 judged 2 read 17\n" ++ dots 56) ∷ [])
     × (offsets ≡ Is 0 ∷ Is 42 ∷ Is (2 ^ 64 - 1) ∷ Not ∷ Not ∷ Not ∷ Not ∷ Not ∷ Not ∷ Not ∷ [])
-unfolding answerBytes verdict readVerdict decimalDigitsIn decimalDigits field numbersLine verdictLine verdictLines heading named lastLine fitting rendered ended offset_of class_of fitted numberWritten decimal
+unfolding answer_bytes verdict read_verdict decimal_digits_in decimal_digits field numbers_line verdict_line verdict_lines heading named last_line fitting rendered ended offset_of class_of fitted number_written decimal
 worked = (refl, refl, refl, refl, refl)

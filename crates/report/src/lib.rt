@@ -1,14 +1,14 @@
 // The program's text: the heading, verdicts as lines, the last line, and its argument. No input and no output.
 ghost use Rattle.std.specs.Prelude.{◌≡◌, ◌+◌, ◌≤◌, [], ◌∷◌, length};
-ghost use Rattle.report.specs.Digits.{decimalDigits};
+ghost use Rattle.report.specs.Digits.{decimal_digits};
 ghost use Rattle.report.specs.Text.{
   field,
-  numbersLine,
-  verdictLine,
+  numbers_line,
+  verdict_line,
   heading,
   named,
   rendered,
-  renderingOf,
+  rendering_of,
   placed,
   ended,
 };
@@ -39,7 +39,7 @@ pub enum Offset {
 
 // How many digits a number has.
 fn width(x: u64) -> usize
-    ensures { result ≡ length (decimalDigits x) }
+    ensures { result ≡ length (decimal_digits x) }
 {
     let mut n = 1;
     let mut rest = x;
@@ -52,8 +52,8 @@ fn width(x: u64) -> usize
 
 // A number's digits, the last first, into a part of just their length.
 fn spell(d: &mut [u8], x: u64)
-    requires { length d.old ≡ length (decimalDigits x) }
-    ensures { d.new ≡ decimalDigits x }
+    requires { length d.old ≡ length (decimal_digits x) }
+    ensures { d.new ≡ decimal_digits x }
 {
     let mut i = d.len();
     let mut rest = x;
@@ -91,8 +91,8 @@ fn put_row(
     place: u64,
     number: u64,
 ) -> usize
-    requires { at + length (numbersLine (offset ∷ kind ∷ answer ∷ place ∷ number ∷ [])) ≤ length out.old }
-    ensures { Put at (numbersLine (offset ∷ kind ∷ answer ∷ place ∷ number ∷ [])) out.old out.new result }
+    requires { at + length (numbers_line (offset ∷ kind ∷ answer ∷ place ∷ number ∷ [])) ≤ length out.old }
+    ensures { Put at (numbers_line (offset ∷ kind ∷ answer ∷ place ∷ number ∷ [])) out.old out.new result }
 {
     let a = put_field(out, at, offset, b' ');
     let b = put_field(out, a, kind, b' ');
@@ -103,8 +103,8 @@ fn put_row(
 
 // The line of the verdict at the start of v, at a place: where it ends.
 fn put_line(out: &mut [u8], at: usize, v: &[u8]) -> usize
-    requires { at + length (verdictLine v.now) ≤ length out.old }
-    ensures { Put at (verdictLine v.now) out.old out.new result }
+    requires { at + length (verdict_line v.now) ≤ length out.old }
+    ensures { Put at (verdict_line v.now) out.old out.new result }
 {
     let d = verdict::read_verdict(v);
     put_row(
@@ -120,7 +120,7 @@ fn put_line(out: &mut [u8], at: usize, v: &[u8]) -> usize
 
 // The lines of the verdicts at the start of a buffer, as long as there is room for the longest line.
 pub fn lines(verdicts: &[u8], out: &mut [u8]) -> Rendered
-    ensures { renderingOf result out.new ≡ rendered verdicts.now out.old }
+    ensures { rendering_of result out.new ≡ rendered verdicts.now out.old }
 {
     let mut k = 0;
     let mut i = 0;

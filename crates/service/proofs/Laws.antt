@@ -3,20 +3,20 @@ use Prim.Native.Nat.{ℕ, zero, suc, ◌+◌, ◌-◌, ◌^◌, ◌≤◌, ◌<�
 use mathlib.Core.Path.{◌≡◌, refl, sym, ap, subst, ◌∙◌}
 use mathlib.Core.Bool.{true, false}
 use mathlib.Core.List.{List, [], ◌∷◌, ◌++◌, append-nil, append_assoc}
-use native.Mathlib.Nat.{sub-zero, zero-sub, suc-sub-suc, sub-add-eq, add-zero}
+use native.Mathlib.Nat.{sub_zero, zero-sub, suc-sub-suc, sub-add-eq, add-zero}
 use native.Mathlib.Numerals.{add-one}
 use native.Mathlib.Omega.{arith}
 use lib.ListN.{length, get_or, set, take, drop, length-append, length-drop, length-set}
 use lib.Seq.{length-take-le, get_or-drop, take-suc, take-suc-set, drop-set-lt, drop-drop, take-nil, drop-nil, take_at, take-add}
 use borrow.Rule.Slice.PartMut.{mid_of, put_mid, same_len_mid, take_put}
-use Rattle.record.specs.Head.{headLimit}
+use Rattle.record.specs.Head.{head_limit}
 use Rattle.batch.specs.Walk.{Outcome, call_of}
 use Rattle.batch_promises.specs.GoingOn.{pauses, Call}
 use Rattle.batch.specs.declared.Stop.{Stop}
 use Rattle.batch.specs.declared.Stop.TheVariants.{Finished, Budget, Room, Cut, Offset, Long}
 use Rattle.report.specs.Text.{at_start}
 use Rattle.turn.specs.declared.Turned.{Turned}
-use Rattle.turn.specs.Turn.{roomOf, callLines, Turning, turn_of, turningOf}
+use Rattle.turn.specs.Turn.{room_of, call_lines, Turning, turn_of, turning_of}
 use Rattle.turn_promises.specs.Stream.{Event, more, call, Stream, started, called, next, feed, input}
 use Rattle.batch_promises.proofs.Sizes.{Sized, sized, goes}
 use Rattle.turn.proofs.Laws.{room-least, room_in}
@@ -26,27 +26,27 @@ use Rattle.service.specs.declared.Way.{Way}
 use Rattle.service.specs.declared.Way.TheVariants.{Again, Read, End}
 use Rattle.service.specs.declared.Ahead.{Ahead}
 use Rattle.service.specs.declared.Ahead.TheVariants.{Turn, LastLine, Nothing}
-use Rattle.service.specs.Run.{wayAfter, waiting, Good, Is, Reached, Called, Led, cameIn, TurnAdds, first, Turns, begin, then, Served}
-use Rattle.service.specs.Inner.{records, callWith, Judging, Shifted, passed, Moved, More, Roomy}
+use Rattle.service.specs.Run.{way_after, waiting, Good, Is, Reached, Called, Led, came_in, TurnAdds, first, Turns, begin, then, Served}
+use Rattle.service.specs.Inner.{records, call_with, Judging, Shifted, passed, Moved, More, Roomy}
 
 pub held-length : (buf : List ℕ) (s : State) → Good buf s → length (waiting buf s) ≡ s.end - s.at
 held-length buf s g = length-take-le (s.end - s.at) (drop s.at buf) (omega (arith, length-drop s.at buf, g.order, g.within))
 
 drop-take : (m n : ℕ) (l : List ℕ) → drop m (take n l) ≡ take (n - m) (drop m l)
-drop-take zero n l = rw sub-zero
+drop-take zero n l = rw sub_zero
 drop-take (suc m) zero l = rw (zero-sub, drop-nil)
 drop-take (suc m) (suc n) [] = rw (drop-nil, take-nil)
 drop-take (suc m) (suc n) (x ∷ l) = rw suc-sub-suc (drop-take m n l)
 
 -- what is held after n bytes more are judged
-left-held : (buf : List ℕ) (at end n : ℕ) → take (end - (at + n)) (drop (at + n) buf) ≡ drop n (take (end - at) (drop at buf))
-left-held buf at end n = sym (drop-take n (end - at) (drop at buf) ∙ rw (drop-drop, sub-add-eq))
+left_held : (buf : List ℕ) (at end n : ℕ) → take (end - (at + n)) (drop (at + n) buf) ≡ drop n (take (end - at) (drop at buf))
+left_held buf at end n = sym (drop-take n (end - at) (drop at buf) ∙ rw (drop-drop, sub-add-eq))
 
 -- one call on what is held, from what `turn` ensures
 module _ (buf out text₀ : List ℕ) (s : State) (g : Good buf s) (r : Turned) (out₁ text₁ : List ℕ)
-    (q : turningOf r out₁ text₁ ≡ turn_of (waiting buf s) s.offset out text₀ records) where
+    (q : turning_of r out₁ text₁ ≡ turn_of (waiting buf s) s.offset out text₀ records) where
   abbrev c : Call
-  c = callWith out text₀
+  c = call_with out text₀
 
   abbrev o : Outcome
   o = call_of (waiting buf s) s.offset c.out c.budget
@@ -54,52 +54,52 @@ module _ (buf out text₀ : List ℕ) (s : State) (g : Good buf s) (r : Turned) 
   z : Sized (waiting buf s) s.offset c.out o
   z = sized (waiting buf s) s.offset c.out c.budget
 
-  the-stop : r.stop ≡ o.stop
+  the_stop : r.stop ≡ o.stop
   unfolding turn_of
-  the-stop = ap (λ (x : Turning). x.stop) q
+  the_stop = ap (λ (x : Turning). x.stop) q
 
-  the-judged : r.judged ≡ o.judged
+  the_judged : r.judged ≡ o.judged
   unfolding turn_of
-  the-judged = ap (λ (x : Turning). x.judged) q
+  the_judged = ap (λ (x : Turning). x.judged) q
 
-  the-read : r.read ≡ o.read
+  the_read : r.read ≡ o.read
   unfolding turn_of
-  the-read = ap (λ (x : Turning). x.read) q
+  the_read = ap (λ (x : Turning). x.read) q
 
-  the_written : r.text ≡ length (callLines o)
+  the_written : r.text ≡ length (call_lines o)
   unfolding turn_of
   the_written = ap (λ (x : Turning). x.written) q
 
-  the-text : text₁ ≡ at_start (callLines o) text₀
+  the_text : text₁ ≡ at_start (call_lines o) text₀
   unfolding turn_of
-  the-text = ap (λ (x : Turning). x.text) q
+  the_text = ap (λ (x : Turning). x.text) q
 
   pub read-inside : s.at + r.read ≤ s.end
-  read-inside = omega (arith, the-read, z.inside, held-length buf s g, g.order)
+  read-inside = omega (arith, the_read, z.inside, held-length buf s g, g.order)
 
   pub read_fits : s.offset < 2 ^ 64 → s.offset + r.read < 2 ^ 64
-  read_fits h = rw the-read (z.fits h)
+  read_fits h = rw the_read (z.fits h)
 
   pub few : r.judged ≤ r.read
-  few = omega (arith, the-judged, the-read, z.few)
+  few = omega (arith, the_judged, the_read, z.few)
 
   abbrev after : State
   after =
       record { at = s.at + r.read; end = s.end; start = s.start; offset = s.offset + r.read; judged = s.judged + r.judged; stop = r.stop }
 
-  the-lines : take r.text text₁ ≡ callLines o
-  the-lines = rw (the-text, the_written) (take_at (callLines o) (drop (length (callLines o)) text₀) (length (callLines o)) refl)
+  the_lines : take r.text text₁ ≡ call_lines o
+  the_lines = rw (the_text, the_written) (take_at (call_lines o) (drop (length (call_lines o)) text₀) (length (call_lines o)) refl)
 
   is-called : (S : Stream) (wrote : List ℕ) → Is S wrote buf s → Is (called c S) (wrote ++ take r.text text₁) buf after
   is-called S wrote i =
       let e : call_of S.held S.offset c.out c.budget ≡ o = rw (i.bytes, i.offset) in
       record {
-        bytes = rw (e, i.bytes, the-read) (sym (left-held buf s.at s.end o.read));
-        offset = rw (e, i.offset, the-read);
-        judged = rw (e, i.judged, the-judged);
-        read = rw e (omega (arith, i.read, the-read));
-        stop = rw (e, the-stop);
-        text = rw (e, i.text, the-lines);
+        bytes = rw (e, i.bytes, the_read) (sym (left_held buf s.at s.end o.read));
+        offset = rw (e, i.offset, the_read);
+        judged = rw (e, i.judged, the_judged);
+        read = rw e (omega (arith, i.read, the_read));
+        stop = rw (e, the_stop);
+        text = rw (e, i.text, the_lines);
       }
 
   pub judging : length text₁ ≡ length text₀ → Judging buf c text₁ s after r.text
@@ -107,12 +107,12 @@ module _ (buf out text₀ : List ℕ) (s : State) (g : Good buf s) (r : Turned) 
       record {
         is = is-called;
         start = refl;
-        inside = omega (arith, the_written, l, ap length the-text, length-append (callLines o) (drop (length (callLines o)) text₀), length-drop (length (callLines o)) text₀);
-        none = λ e. omega (arith, z.none (sym the-stop ∙ e), the-read, held-length buf s g, g.order);
-        short = λ e. omega (arith, z.short (sym the-stop ∙ e), the-read, held-length buf s g, g.order);
+        inside = omega (arith, the_written, l, ap length the_text, length-append (call_lines o) (drop (length (call_lines o)) text₀), length-drop (length (call_lines o)) text₀);
+        none = λ e. omega (arith, z.none (sym the_stop ∙ e), the_read, held-length buf s g, g.order);
+        short = λ e. omega (arith, z.short (sym the_stop ∙ e), the_read, held-length buf s g, g.order);
         later = omega arith;
         total = omega (arith, read-inside);
-        grew = λ v p. omega (arith, few, the-judged, goes (waiting buf s) s.offset c.out c.budget (omega arith) v (ap pauses (sym the-stop) ∙ p));
+        grew = λ v p. omega (arith, few, the_judged, goes (waiting buf s) s.offset c.out c.budget (omega arith) v (ap pauses (sym the_stop) ∙ p));
         good =
             record {
               order = read-inside;
@@ -131,9 +131,9 @@ pub record Moving (buf₀ : List ℕ) (at n : ℕ) (buf : List ℕ) (i : ℕ) : 
 pub move_start : (buf : List ℕ) (at n : ℕ) → Moving buf at n buf 0
 move_start buf at n = record { upto = omega arith; same = refl; moved = refl; rest = refl }
 
-pub move-on : (buf₀ : List ℕ) (at n : ℕ) (buf : List ℕ) (i : ℕ) → at + n ≤ length buf₀ → Moving buf₀ at n buf i → i < n
+pub move_on : (buf₀ : List ℕ) (at n : ℕ) (buf : List ℕ) (i : ℕ) → at + n ≤ length buf₀ → Moving buf₀ at n buf i → i < n
     → Moving buf₀ at n (set buf i (get_or buf (at + i) 0)) (i + 1)
-move-on buf₀ at n buf i f g h =
+move_on buf₀ at n buf i f g h =
     let v : ℕ = get_or buf (at + i) 0 in
     let c : i + at ≡ at + i = omega arith in
     let e : v ≡ get_or (drop at buf₀) i 0 =
@@ -147,14 +147,14 @@ move-on buf₀ at n buf i f g h =
       rest = drop-set-lt (i + 1) buf i v (omega arith) ∙ sym (drop-drop 1 i buf) ∙ ap (drop 1) g.rest ∙ drop-drop 1 i buf₀;
     }
 
-pub move-done : (buf₀ : List ℕ) (at n : ℕ) (buf : List ℕ) (i : ℕ) → Moving buf₀ at n buf i → n ≤ i → take n buf ≡ take n (drop at buf₀)
-move-done buf₀ at n buf i g h = let e : i ≡ n = omega (arith, g.upto) in rw e at g.moved
+pub move_done : (buf₀ : List ℕ) (at n : ℕ) (buf : List ℕ) (i : ℕ) → Moving buf₀ at n buf i → n ≤ i → take n buf ≡ take n (drop at buf₀)
+move_done buf₀ at n buf i g h = let e : i ≡ n = omega (arith, g.upto) in rw e at g.moved
 
 pub shifted : (buf₀ buf : List ℕ) (s : State) → Good buf₀ s → length buf ≡ length buf₀ → take (s.end - s.at) buf ≡ take (s.end - s.at) (drop s.at buf₀)
     → Shifted buf₀ buf s (record { at = 0; end = s.end - s.at; start = s.start; offset = s.offset; judged = s.judged; stop = s.stop })
 shifted buf₀ buf s g l e =
     record {
-      same = simp sub-zero e;
+      same = simp sub_zero e;
       at = refl;
       end = refl;
       start = refl;
@@ -248,20 +248,20 @@ reached-more came wrote buf s n h k =
     })
 
 -- no two cases of an enum are equal
-pub nothing-is-last : Nothing ≡ LastLine → ⊥
-nothing-is-last e = let z : ◌≡◌ {A = ℕ} 0 1 = cc in absurd (omega arith)
+pub nothing_is_last : Nothing ≡ LastLine → ⊥
+nothing_is_last e = let z : ◌≡◌ {A = ℕ} 0 1 = cc in absurd (omega arith)
 
-pub turn-is-last : Turn ≡ LastLine → ⊥
-turn-is-last e = let z : ◌≡◌ {A = ℕ} 0 1 = cc in absurd (omega arith)
+pub turn_is_last : Turn ≡ LastLine → ⊥
+turn_is_last e = let z : ◌≡◌ {A = ℕ} 0 1 = cc in absurd (omega arith)
 
-pub last-is-turn : LastLine ≡ Turn → ⊥
-last-is-turn e = let z : ◌≡◌ {A = ℕ} 0 1 = cc in absurd (omega arith)
+pub last_is_turn : LastLine ≡ Turn → ⊥
+last_is_turn e = let z : ◌≡◌ {A = ℕ} 0 1 = cc in absurd (omega arith)
 
-pub nothing-is-turn : Nothing ≡ Turn → ⊥
-nothing-is-turn e = let z : ◌≡◌ {A = ℕ} 0 1 = cc in absurd (omega arith)
+pub nothing_is_turn : Nothing ≡ Turn → ⊥
+nothing_is_turn e = let z : ◌≡◌ {A = ℕ} 0 1 = cc in absurd (omega arith)
 
-again-is-read : Again ≡ Read → ⊥
-again-is-read e = let z : ◌≡◌ {A = ℕ} 0 1 = cc in absurd (omega arith)
+again_is_read : Again ≡ Read → ⊥
+again_is_read e = let z : ◌≡◌ {A = ℕ} 0 1 = cc in absurd (omega arith)
 
 end-is-read : End ≡ Read → ⊥
 end-is-read e = let z : ◌≡◌ {A = ℕ} 0 1 = cc in absurd (omega arith)
@@ -275,13 +275,13 @@ module _ (buf₀ buf₁ part : List ℕ) (s t : State) (h : Shifted buf₀ buf�
   same_size : length read ≡ length buf₁
   same_size = same_len_mid t.end (length buf₁ - t.end) buf₁ part l
 
-  still-held : waiting read t ≡ waiting buf₁ t
-  still-held = rw (h.at, sub-zero) (take_put t.end (length buf₁ - t.end) buf₁ part h.good.within)
+  still_held : waiting read t ≡ waiting buf₁ t
+  still_held = rw (h.at, sub_zero) (take_put t.end (length buf₁ - t.end) buf₁ part h.good.within)
 
-  still-shifted : Shifted buf₀ read s t
-  still-shifted =
+  still_shifted : Shifted buf₀ read s t
+  still_shifted =
       record {
-        same = still-held ∙ h.same;
+        same = still_held ∙ h.same;
         at = h.at;
         end = h.end;
         start = h.start;
@@ -291,16 +291,16 @@ module _ (buf₀ buf₁ part : List ℕ) (s t : State) (h : Shifted buf₀ buf�
         good = record { order = h.good.order; within = omega (arith, h.good.within, same_size); counts = h.good.counts };
       }
 
-  still-called : (came wrote : List ℕ) → Called came wrote buf₀ s → Called came wrote read t
-  still-called came wrote k = called-moved came wrote buf₀ read s t still-shifted k
+  still_called : (came wrote : List ℕ) → Called came wrote buf₀ s → Called came wrote read t
+  still_called came wrote k = called-moved came wrote buf₀ read s t still_shifted k
 
-  still-reached : (came wrote : List ℕ) → Called came wrote buf₀ s → Reached came wrote read t
-  still-reached came wrote k = called-reached came wrote read t (still-called came wrote k)
+  still_reached : (came wrote : List ℕ) → Called came wrote buf₀ s → Reached came wrote read t
+  still_reached came wrote k = called-reached came wrote read t (still_called came wrote k)
 
-  pub more-failed : (w : ℕ) → More buf₀ s w read (record { s = t; ahead = Nothing; wrote = w; came = 0 })
-  more-failed w =
+  pub more_failed : (w : ℕ) → More buf₀ s w read (record { s = t; ahead = Nothing; wrote = w; came = 0 })
+  more_failed w =
       record {
-        led = λ came wrote k. rw append-nil (record { reached = still-reached came wrote k; ended = λ e. absurd (nothing-is-last e) });
+        led = λ came wrote k. rw append-nil (record { reached = still_reached came wrote k; ended = λ e. absurd (nothing_is_last e) });
         start = h.start;
         wrote = refl;
       }
@@ -308,7 +308,7 @@ module _ (buf₀ buf₁ part : List ℕ) (s t : State) (h : Shifted buf₀ buf�
   pub more-ended : (w : ℕ) → More buf₀ s w read (record { s = t; ahead = LastLine; wrote = w; came = 0 })
   more-ended w =
       record {
-        led = λ came wrote k. rw append-nil (record { reached = still-reached came wrote k; ended = λ e. still-called came wrote k });
+        led = λ came wrote k. rw append-nil (record { reached = still_reached came wrote k; ended = λ e. still_called came wrote k });
         start = h.start;
         wrote = refl;
       }
@@ -318,7 +318,7 @@ module _ (buf₀ buf₁ part : List ℕ) (s t : State) (h : Shifted buf₀ buf�
       record {
         led =
             λ came wrote k.
-            record { reached = reached-more came wrote read t n f (still-reached came wrote k); ended = λ e. absurd (turn-is-last e) };
+            record { reached = reached-more came wrote read t n f (still_reached came wrote k); ended = λ e. absurd (turn_is_last e) };
         start = h.start;
         wrote = refl;
       }
@@ -327,8 +327,8 @@ pub moved_more : (buf₀ buf : List ℕ) (s t : State) (w n : ℕ) → Shifted b
     → Moved s (record { s = longer t n; ahead = Turn; wrote = w; came = n })
 moved_more buf₀ buf s t w n h p = record { moved = λ e. omega (arith, h.offset, h.at, h.end) }
 
-pub not-moved : (s : State) (n : Next) → (n.ahead ≡ Turn → ⊥) → Moved s n
-not-moved s n p = record { moved = λ e. absurd (p e) }
+pub not_moved : (s : State) (n : Next) → (n.ahead ≡ Turn → ⊥) → Moved s n
+not_moved s n p = record { moved = λ e. absurd (p e) }
 
 -- a call in the program
 module _ (buf : List ℕ) (c : Call) (text : List ℕ) (s r : State) (n : ℕ) (j : Judging buf c text s r n) where
@@ -352,18 +352,18 @@ module _ (buf : List ℕ) (c : Call) (text : List ℕ) (s r : State) (n : ℕ) (
 
   -- a turn that hands its lines to a write
   module _ (w : ℕ) (e : w ≡ n) where
-    as-told : (came wrote buf₁ : List ℕ) (m : Next) → Led came (wrote ++ take n text) buf₁ m → Led came (wrote ++ take w text) buf₁ m
-    as-told came wrote buf₁ m l = subst (λ (x : ℕ). Led came (wrote ++ take x text) buf₁ m) (sym e) l
+    as_told : (came wrote buf₁ : List ℕ) (m : Next) → Led came (wrote ++ take n text) buf₁ m → Led came (wrote ++ take w text) buf₁ m
+    as_told came wrote buf₁ m l = subst (λ (x : ℕ). Led came (wrote ++ take x text) buf₁ m) (sym e) l
 
     -- and reads nothing
-    pub turned-call : (a : Ahead) → (a ≡ LastLine → pauses r.stop ≡ false)
+    pub turned_call : (a : Ahead) → (a ≡ LastLine → pauses r.stop ≡ false)
         → TurnAdds buf s buf text (record { s = r; ahead = a; wrote = w; came = 0 })
-    turned-call a p =
+    turned_call a p =
         record {
           led =
               λ came wrote k.
               rw append-nil
-              (as-told came wrote buf (record { s = r; ahead = a; wrote = w; came = 0 })
+              (as_told came wrote buf (record { s = r; ahead = a; wrote = w; came = 0 })
               (record { reached = judged-reached came wrote k; ended = λ e. judged-called came wrote k (p e) }));
           start = j.start;
         }
@@ -374,8 +374,8 @@ module _ (buf : List ℕ) (c : Call) (text : List ℕ) (s r : State) (n : ℕ) (
         record {
           led =
               λ came wrote k.
-              subst (λ (x : ℕ). Led (came ++ cameIn buf₁ m) (wrote ++ take x text) buf₁ m) (sym g.wrote)
-              (as-told (came ++ cameIn buf₁ m) wrote buf₁ m (g.led came (wrote ++ take n text) (judged-called came wrote k p)));
+              subst (λ (x : ℕ). Led (came ++ came_in buf₁ m) (wrote ++ take x text) buf₁ m) (sym g.wrote)
+              (as_told (came ++ came_in buf₁ m) wrote buf₁ m (g.led came (wrote ++ take n text) (judged-called came wrote k p)));
           start = g.start ∙ j.start;
         }
 
@@ -383,23 +383,23 @@ module _ (buf : List ℕ) (c : Call) (text : List ℕ) (s r : State) (n : ℕ) (
   moved-after m g = record { moved = λ e. omega (arith, g.moved e, j.later, j.total) }
 
 -- what follows a stop
-does-pause : (s : Stop) → wayAfter s ≡ Again → pauses s ≡ true
-does-pause Finished e = absurd (again-is-read (sym e))
-does-pause Budget e = refl
-does-pause Room e = refl
-does-pause Cut e = absurd (again-is-read (sym e))
-does-pause Offset e = let z : ◌≡◌ {A = ℕ} 0 1 = cc in absurd (omega arith)
-does-pause Long e = let z : ◌≡◌ {A = ℕ} 0 1 = cc in absurd (omega arith)
+does_pause : (s : Stop) → way_after s ≡ Again → pauses s ≡ true
+does_pause Finished e = absurd (again_is_read (sym e))
+does_pause Budget e = refl
+does_pause Room e = refl
+does_pause Cut e = absurd (again_is_read (sym e))
+does_pause Offset e = let z : ◌≡◌ {A = ℕ} 0 1 = cc in absurd (omega arith)
+does_pause Long e = let z : ◌≡◌ {A = ℕ} 0 1 = cc in absurd (omega arith)
 
-pub reads_on : (s : Stop) → wayAfter s ≡ Read → pauses s ≡ false
+pub reads_on : (s : Stop) → way_after s ≡ Read → pauses s ≡ false
 reads_on Finished e = refl
-reads_on Budget e = absurd (again-is-read e)
-reads_on Room e = absurd (again-is-read e)
+reads_on Budget e = absurd (again_is_read e)
+reads_on Room e = absurd (again_is_read e)
 reads_on Cut e = refl
 reads_on Offset e = refl
 reads_on Long e = refl
 
-pub ends : (s : Stop) → wayAfter s ≡ End → pauses s ≡ false
+pub ends : (s : Stop) → way_after s ≡ End → pauses s ≡ false
 ends Finished e = refl
 ends Budget e = let z : ◌≡◌ {A = ℕ} 0 1 = cc in absurd (omega arith)
 ends Room e = let z : ◌≡◌ {A = ℕ} 0 1 = cc in absurd (omega arith)
@@ -407,22 +407,22 @@ ends Cut e = refl
 ends Offset e = refl
 ends Long e = refl
 
-pub has_room : (s : Stop) (at end size : ℕ) → (s ≡ Finished → at ≡ end) → (s ≡ Cut → end < at + (4 + headLimit)) → 4 + headLimit ≤ size
-    → wayAfter s ≡ Read → end < at + size
+pub has_room : (s : Stop) (at end size : ℕ) → (s ≡ Finished → at ≡ end) → (s ≡ Cut → end < at + (4 + head_limit)) → 4 + head_limit ≤ size
+    → way_after s ≡ Read → end < at + size
 has_room Finished at end size f g h e = omega (arith, f refl)
-has_room Budget at end size f g h e = absurd (again-is-read e)
-has_room Room at end size f g h e = absurd (again-is-read e)
+has_room Budget at end size f g h e = absurd (again_is_read e)
+has_room Room at end size f g h e = absurd (again_is_read e)
 has_room Cut at end size f g h e = omega (arith, g refl)
 has_room Offset at end size f g h e = absurd (end-is-read e)
 has_room Long at end size f g h e = absurd (end-is-read e)
 
-pub moved_call : (buf out text₀ text : List ℕ) (s r : State) (k w : ℕ) → Roomy buf out text₀ → Judging buf (callWith out text₀) text s r k
-    → wayAfter r.stop ≡ Again → Moved s (record { s = r; ahead = Turn; wrote = w; came = 0 })
+pub moved_call : (buf out text₀ text : List ℕ) (s r : State) (k w : ℕ) → Roomy buf out text₀ → Judging buf (call_with out text₀) text s r k
+    → way_after r.stop ≡ Again → Moved s (record { s = r; ahead = Turn; wrote = w; came = 0 })
 moved_call buf out text₀ text s r k w g j h =
-    let n = roomOf (length out) (length text₀) in
+    let n = room_of (length out) (length text₀) in
     let l = length-take-le n out (room_in (length out) (length text₀) n refl) in
-    let v = room-least (length out) (length text₀) g.verdict-fits g.line-fits in
-    record { moved = λ e. omega (arith, j.grew (rw l v) (does-pause r.stop h), j.total) }
+    let v = room-least (length out) (length text₀) g.verdict_fits g.line_fits in
+    record { moved = λ e. omega (arith, j.grew (rw l v) (does_pause r.stop h), j.total) }
 
 -- turns lead from the start to where they are
 led-start : (start : ℕ) (buf : List ℕ) → Led [] [] buf (first start)
@@ -436,16 +436,16 @@ led-start start buf =
             is = record { bytes = refl; offset = refl; judged = refl; read = add-zero start; stop = refl; text = refl };
             good = record { order = omega arith; within = omega arith; counts = omega arith };
           };
-      ended = λ e. absurd (turn-is-last e);
+      ended = λ e. absurd (turn_is_last e);
     }
 
 pub turns-led : {start : ℕ} {came wrote buf : List ℕ} {n : Next} → Turns start came wrote buf n → Led came wrote buf n
 turns-led {start = start} (begin buf) = led-start start buf
 turns-led (then {came} {wrote} buf₁ text₁ m t a g) = g.led came wrote (turns-led t).reached
 
-pub turns-from : {start : ℕ} {came wrote buf : List ℕ} {n : Next} → Turns start came wrote buf n → n.s.start ≡ start
-turns-from (begin buf) = refl
-turns-from (then buf₁ text₁ m t a g) = g.start ∙ turns-from t
+pub turns_from : {start : ℕ} {came wrote buf : List ℕ} {n : Next} → Turns start came wrote buf n → n.s.start ≡ start
+turns_from (begin buf) = refl
+turns_from (then buf₁ text₁ m t a g) = g.start ∙ turns_from t
 
 -- the loop of turns
 pub record Going (start : ℕ) (buf₀ out₀ text₀ buf out text : List ℕ) (n : Next) : Type 0 where
@@ -453,40 +453,40 @@ pub record Going (start : ℕ) (buf₀ out₀ text₀ buf out text : List ℕ) (
   pub wrote : List ℕ
   pub turns : Turns start came wrote buf n
   pub fits : n.s.offset < 2 ^ 64
-  pub same-buf : length buf ≡ length buf₀
+  pub same_buf : length buf ≡ length buf₀
   pub same_out : length out ≡ length out₀
   pub same_text : length text ≡ length text₀
 
 pub going_start : (start : ℕ) (buf out text : List ℕ) → start < 2 ^ 64 → Going start buf out text buf out text (first start)
 going_start start buf out text h =
-    record { came = []; wrote = []; turns = begin buf; fits = h; same-buf = refl; same_out = refl; same_text = refl }
+    record { came = []; wrote = []; turns = begin buf; fits = h; same_buf = refl; same_out = refl; same_text = refl }
 
 module _ (start : ℕ) (buf₀ out₀ text₀ buf out text : List ℕ) (n : Next) (g : Going start buf₀ out₀ text₀ buf out text n) where
-  pub going-good : Good buf n.s
-  going-good = (turns-led g.turns).reached.good
+  pub going_good : Good buf n.s
+  going_good = (turns-led g.turns).reached.good
 
   pub going_on : (buf₁ out₁ text₁ : List ℕ) (m : Next) → n.ahead ≡ Turn → TurnAdds buf n.s buf₁ text₁ m → m.s.offset < 2 ^ 64
       → length buf₁ ≡ length buf → length out₁ ≡ length out → length text₁ ≡ length text → Going start buf₀ out₀ text₀ buf₁ out₁ text₁ m
   going_on buf₁ out₁ text₁ m a t f b o x =
       record {
-        came = g.came ++ cameIn buf₁ m;
+        came = g.came ++ came_in buf₁ m;
         wrote = g.wrote ++ take m.wrote text₁;
         turns = then buf₁ text₁ m g.turns a t;
         fits = f;
-        same-buf = b ∙ g.same-buf;
+        same_buf = b ∙ g.same_buf;
         same_out = o ∙ g.same_out;
         same_text = x ∙ g.same_text;
       }
 
-  pub going-over : (n.ahead ≡ Turn → ⊥) → Served start buf n
-  going-over o = record { came = g.came; wrote = g.wrote; turns = g.turns; over = o }
+  pub going_over : (n.ahead ≡ Turn → ⊥) → Served start buf n
+  going_over o = record { came = g.came; wrote = g.wrote; turns = g.turns; over = o }
 
-  pub roomy-kept : Roomy buf₀ out₀ text₀ → Roomy buf out text
-  roomy-kept r =
+  pub roomy_kept : Roomy buf₀ out₀ text₀ → Roomy buf out text
+  roomy_kept r =
       record {
-        record-fits = omega (arith, r.record-fits, g.same-buf);
-        verdict-fits = omega (arith, r.verdict-fits, g.same_out);
-        line-fits = omega (arith, r.line-fits, g.same_text);
+        record_fits = omega (arith, r.record_fits, g.same_buf);
+        verdict_fits = omega (arith, r.verdict_fits, g.same_out);
+        line_fits = omega (arith, r.line_fits, g.same_text);
       }
 
 -- the turns left, where one follows

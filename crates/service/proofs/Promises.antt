@@ -7,19 +7,19 @@ use mathlib.Core.List.{List, [], ◌++◌}
 use native.Mathlib.Omega.{arith}
 use lib.ListN.{length, take}
 use Rattle.batch.specs.declared.Stop.TheVariants.{Long}
-use Rattle.record.specs.Records.{recordsOf}
-use Rattle.batch.specs.Verdicts.{verdictsOf}
+use Rattle.record.specs.Records.{records_of}
+use Rattle.batch.specs.Verdicts.{verdicts_of}
 use Rattle.batch_promises.specs.GoingOn.{Sum, all_of, pauses}
-use Rattle.report.specs.Text.{heading, verdictLines}
+use Rattle.report.specs.Text.{heading, verdict_lines}
 use Rattle.turn_promises.specs.Stream.{Stream, started, called, feed, input}
-use Rattle.turn_promises.specs.Output.{last_of, outputOf}
-use Rattle.turn_promises.proofs.Promises.{all_done, same-output, at_long}
-use Rattle.turn_promises.proofs.Cutting.{Fed, fed-start, fed}
+use Rattle.turn_promises.specs.Output.{last_of, output_of}
+use Rattle.turn_promises.proofs.Promises.{all_done, same_output, at_long}
+use Rattle.turn_promises.proofs.Cutting.{Fed, fed_start, fed}
 use Rattle.service.specs.declared.State.{State}
 use Rattle.service.specs.declared.Next.{Next}
 use Rattle.service.specs.declared.Ahead.TheVariants.{LastLine}
-use Rattle.service.specs.Run.{Reached, Called, Served, Closing, lastRow}
-use Rattle.service.proofs.Laws.{turns-led, turns-from}
+use Rattle.service.specs.Run.{Reached, Called, Served, Closing, last_row}
+use Rattle.service.proofs.Laws.{turns-led, turns_from}
 
 module _ (came wrote buf : List ℕ) (s : State) (k : Called came wrote buf s) (h : s.start + length came < 2 ^ 64) where
   abbrev run : Stream
@@ -39,20 +39,20 @@ module _ (came wrote buf : List ℕ) (s : State) (k : Called came wrote buf s) (
   last-numbers =
       (sym k.is.stop ∙ ap (λ (x : Sum). x.stop) same, sym k.is.judged ∙ ap (λ (x : Sum). x.judged) same, omega (arith, k.is.read, ap (λ (x : Sum). x.read) same))
 
-  the-read : run.done.read ≡ s.offset - s.start
-  the-read = omega (arith, k.is.read)
+  the_read : run.done.read ≡ s.offset - s.start
+  the_read = omega (arith, k.is.read)
 
   -- the heading, all that was written after it and the last line are the whole output that SCOPE asks for the bytes that came
-  pub whole-output : heading ++ (wrote ++ lastRow s) ≡ outputOf came s.start
-  whole-output =
-      rw (sym k.is.text, sym k.is.stop, sym k.is.judged, sym the-read)
-      (same-output k.events k.last s.start below ends ∙ ap (λ (b : List ℕ). outputOf b s.start) k.all)
+  pub whole_output : heading ++ (wrote ++ last_row s) ≡ output_of came s.start
+  whole_output =
+      rw (sym k.is.text, sym k.is.stop, sym k.is.judged, sym the_read)
+      (same_output k.events k.last s.start below ends ∙ ap (λ (b : List ℕ). output_of b s.start) k.all)
 
   -- after stop 35 that is so whatever bytes would have followed
-  pub whatever-follows : s.stop ≡ Long → (rest : List ℕ) → heading ++ (wrote ++ lastRow s) ≡ outputOf (came ++ rest) s.start
-  unfolding outputOf
-  whatever-follows e rest =
-      whole-output ∙ ap (λ (x : Sum). heading ++ (verdictLines x.judged x.bytes ++ last_of x))
+  pub whatever_follows : s.stop ≡ Long → (rest : List ℕ) → heading ++ (wrote ++ last_row s) ≡ output_of (came ++ rest) s.start
+  unfolding output_of
+  whatever_follows e rest =
+      whole_output ∙ ap (λ (x : Sum). heading ++ (verdict_lines x.judged x.bytes ++ last_of x))
       (sym same ∙ at_long k.events k.last s.start below (k.is.stop ∙ e) rest ∙ ap (λ (b : List ℕ). all_of (b ++ rest) s.start) k.all)
 
 -- at every moment, also where the program is ended from outside or fails: what was handed to writes are the lines of the first records of what came
@@ -63,18 +63,18 @@ module _ (came wrote buf : List ℕ) (s : State) (k : Reached came wrote buf s) 
   here : Fed s.start came now
   here =
       subst (λ (b : List ℕ). Fed s.start b now) k.all
-      (fed s.start k.events [] (started s.start) (rw k.all h) (fed-start s.start))
+      (fed s.start k.events [] (started s.start) (rw k.all h) (fed_start s.start))
 
-  pub so_far : wrote ≡ verdictLines s.judged (verdictsOf (take s.judged (recordsOf came s.start)))
+  pub so_far : wrote ≡ verdict_lines s.judged (verdicts_of (take s.judged (records_of came s.start)))
   so_far =
-      sym k.is.text ∙ here.lines ∙ ap (verdictLines now.done.judged) here.part.bytes
-      ∙ ap (λ (j : ℕ). verdictLines j (verdictsOf (take j (recordsOf came s.start)))) k.is.judged
+      sym k.is.text ∙ here.lines ∙ ap (verdict_lines now.done.judged) here.part.bytes
+      ∙ ap (λ (j : ℕ). verdict_lines j (verdicts_of (take j (records_of came s.start)))) k.is.judged
 
 -- the program writes the heading, then turns follow each other from the start on, then it writes the first k bytes of the text: where the
 -- turns ended with a last line, all that is what SCOPE asks for the bytes that came
-pub program-writes : (start : ℕ) (buf text : List ℕ) (n : Next) (k : ℕ) (v : Served start buf n) → n.ahead ≡ LastLine → Closing text n.s k
-    → start + length v.came < 2 ^ 64 → heading ++ (v.wrote ++ take k text) ≡ outputOf v.came start
-program-writes start buf text n k v e l h =
+pub program_writes : (start : ℕ) (buf text : List ℕ) (n : Next) (k : ℕ) (v : Served start buf n) → n.ahead ≡ LastLine → Closing text n.s k
+    → start + length v.came < 2 ^ 64 → heading ++ (v.wrote ++ take k text) ≡ output_of v.came start
+program_writes start buf text n k v e l h =
     ap (λ (t : List ℕ). heading ++ (v.wrote ++ t)) l.is
-    ∙ whole-output v.came v.wrote buf n.s ((turns-led v.turns).ended e) (rw (turns-from v.turns) h)
-    ∙ ap (outputOf v.came) (turns-from v.turns)
+    ∙ whole_output v.came v.wrote buf n.s ((turns-led v.turns).ended e) (rw (turns_from v.turns) h)
+    ∙ ap (output_of v.came) (turns_from v.turns)

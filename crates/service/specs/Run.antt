@@ -2,11 +2,11 @@
 -- Its state is held against a run on lists (turn's specs/Stream.antt), with two lists beside it: all the bytes that reads gave, joined,
 -- which are `came`, and all the slices that were handed to writes after the heading, joined, which are `wrote`.
 use Rattle.std.specs.Prelude.{ℕ, ◌+◌, ◌-◌, ◌≤◌, ◌≡◌, false, List, [], ◌++◌, length, take, drop}
-use Rattle.batch.specs.Walk.{stopNumber}
+use Rattle.batch.specs.Walk.{stop_number}
 use Rattle.batch_promises.specs.GoingOn.{pauses, Call}
 use Rattle.batch.specs.declared.Stop.{Stop}
 use Rattle.batch.specs.declared.Stop.TheVariants.{Finished, Budget, Room, Cut, Offset, Long}
-use Rattle.report.specs.Text.{lastLine}
+use Rattle.report.specs.Text.{last_line}
 use Rattle.turn_promises.specs.Stream.{Event, Stream, started, called, feed, input}
 use Rattle.service.specs.declared.State.{State}
 use Rattle.service.specs.declared.Next.{Next}
@@ -15,13 +15,13 @@ use Rattle.service.specs.declared.Way.TheVariants.{Again, Read, End}
 use Rattle.service.specs.declared.Ahead.TheVariants.{Turn, LastLine}
 
 -- what follows a stop: after 31 and 32 another call; at the end of what is held, or inside a record, more input; after 34 and 35 the end
-abbrev pub wayAfter : Stop → Way
-wayAfter Finished = Read
-wayAfter Budget = Again
-wayAfter Room = Again
-wayAfter Cut = Read
-wayAfter Offset = End
-wayAfter Long = End
+abbrev pub way_after : Stop → Way
+way_after Finished = Read
+way_after Budget = Again
+way_after Room = Again
+way_after Cut = Read
+way_after Offset = End
+way_after Long = End
 
 -- what the buffer holds that is not judged yet
 abbrev pub waiting : List ℕ → State → List ℕ
@@ -64,12 +64,12 @@ pub record Led (came wrote buf : List ℕ) (n : Next) : Type 0 where
   pub ended : n.ahead ≡ LastLine → Called came wrote buf n.s
 
 -- the bytes that came in a turn are the last that are held
-abbrev pub cameIn : List ℕ → Next → List ℕ
-cameIn buf r = take r.came (drop (r.s.end - r.came) buf)
+abbrev pub came_in : List ℕ → Next → List ℕ
+came_in buf r = take r.came (drop (r.s.end - r.came) buf)
 
 -- a turn from s to r: whatever had come and was written before, its bytes came after that, and its lines were written after that
 pub record TurnAdds (buf₀ : List ℕ) (s : State) (buf text : List ℕ) (r : Next) : Type 0 where
-  pub led : (came wrote : List ℕ) → Reached came wrote buf₀ s → Led (came ++ cameIn buf r) (wrote ++ take r.wrote text) buf r
+  pub led : (came wrote : List ℕ) → Reached came wrote buf₀ s → Led (came ++ came_in buf r) (wrote ++ take r.wrote text) buf r
   pub start : r.s.start ≡ s.start
 
 -- before the first turn: nothing is held, and nothing was judged
@@ -81,7 +81,7 @@ first start =
 pub data Turns (start : ℕ) : List ℕ → List ℕ → List ℕ → Next → Type 0 where
   begin : (buf : List ℕ) → Turns start [] [] buf (first start)
   then : {came wrote buf : List ℕ} {n : Next} (buf₁ text₁ : List ℕ) (m : Next) → Turns start came wrote buf n → n.ahead ≡ Turn
-      → TurnAdds buf n.s buf₁ text₁ m → Turns start (came ++ cameIn buf₁ m) (wrote ++ take m.wrote text₁) buf₁ m
+      → TurnAdds buf n.s buf₁ text₁ m → Turns start (came ++ came_in buf₁ m) (wrote ++ take m.wrote text₁) buf₁ m
 
 -- turns until none follows
 pub record Served (start : ℕ) (buf : List ℕ) (n : Next) : Type 0 where
@@ -91,10 +91,10 @@ pub record Served (start : ℕ) (buf : List ℕ) (n : Next) : Type 0 where
   pub over : n.ahead ≡ Turn → ⊥
 
 -- the last line of a state: its stop, the records judged and their bytes
-abbrev pub lastRow : State → List ℕ
-lastRow s = lastLine (stopNumber s.stop) s.judged (s.offset - s.start)
+abbrev pub last_row : State → List ℕ
+last_row s = last_line (stop_number s.stop) s.judged (s.offset - s.start)
 
 -- the first n bytes of the text are that line
 pub record Closing (text : List ℕ) (s : State) (n : ℕ) : Type 0 where
   pub inside : n ≤ length text
-  pub is : take n text ≡ lastRow s
+  pub is : take n text ≡ last_row s

@@ -6,9 +6,9 @@
 // what `buf` holds, and how many there are of each comes from `write_out` and `read_some`. `step` says that each turn adds both to what
 // went before, and proofs/Promises.antt that in the end all the lines are what SCOPE asks for all the bytes.
 ghost use Rattle.std.specs.Prelude.{◌≡◌, ◌+◌, ◌≤◌, ◌<◌, length, take, drop};
-ghost use Rattle.report.specs.Text.{lastMost};
-ghost use Rattle.service.specs.Run.{wayAfter, Good, TurnAdds, Served, Closing};
-ghost use Rattle.service.specs.Inner.{callWith, Judging, Shifted, More, Moved, Roomy};
+ghost use Rattle.report.specs.Text.{last_most};
+ghost use Rattle.service.specs.Run.{way_after, Good, TurnAdds, Served, Closing};
+ghost use Rattle.service.specs.Inner.{call_with, Judging, Shifted, More, Moved, Roomy};
 
 use batch::Stop;
 
@@ -69,7 +69,7 @@ struct Written {
 
 // After 31 and 32 the call is made again; where what is held has no whole record more, input is read; 34 and 35 end the run.
 fn way_after(stop: Stop) -> Way
-    ensures { result ≡ wayAfter stop }
+    ensures { result ≡ way_after stop }
 {
     match stop {
         Stop::Finished => Way::Read,
@@ -84,7 +84,7 @@ fn way_after(stop: Stop) -> Way
 // One call on what is held, and its lines.
 fn judge_held(buf: &[u8], out: &mut [u8], text: &mut [u8], s: State) -> Judged
     requires { Good buf.now s }
-    ensures { Judging buf.now (callWith out.old text.old) text.new s result.s result.text }
+    ensures { Judging buf.now (call_with out.old text.old) text.new s result.s result.text }
 {
     let at = s.at;
     let end = s.end;
@@ -267,7 +267,7 @@ fn serve(buf: &mut [u8], out: &mut [u8], text: &mut [u8], start: u64) -> Next
 
 // The last line at the start of the text, and its length.
 fn last_line(text: &mut [u8], s: State) -> usize
-    requires { (lastMost ≤ length text.old) × (s.start ≤ s.offset) }
+    requires { (last_most ≤ length text.old) × (s.start ≤ s.offset) }
     ensures { Closing text.new s result }
 {
     let stop = s.stop;

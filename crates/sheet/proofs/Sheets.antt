@@ -8,41 +8,41 @@ use borrow.Author.Tests.{eqb-true, eq-eqb, ne_eqb}
 use lib.Dec.{T, eqb}
 use lib.ListN.{length, take, drop, length-take}
 use lib.Seq.{take-length}
-use Rattle.text.specs.Same.{sameText}
+use Rattle.text.specs.Same.{same_text}
 use Rattle.text.proofs.Ranges.{within-ends}
-use Rattle.text.proofs.Same.{same_text, text_same}
+use Rattle.text.proofs.Same.{same_text_lem, text_same}
 use Rattle.iban.specs.Format.{padded}
 use Rattle.iban.proofs.Padded.{padded-front}
-use Rattle.field.specs.Field.{checkField}
-use Rattle.sheet.specs.Sheets.{sheetKind, heldText, sheetOf, emptySheet, held, sameSheet}
+use Rattle.field.specs.Field.{check_field}
+use Rattle.sheet.specs.Sheets.{sheet_kind, held_text, sheet_of, empty_sheet, held, same_sheet}
 use Rattle.sheet.specs.Load.{summed, load_of, standing}
 use Rattle.sheet.specs.declared.Sheet.{Sheet}
 use Rattle.sheet.specs.declared.Repaired.{Repaired}
-use Rattle.sheet.proofs.Fits.{Fit, fit-few}
-use Rattle.sheet.proofs.Loads.{load-other, load-refused, load-taken, taken-fit, load-fit}
+use Rattle.sheet.proofs.Fits.{Fit, fit_few}
+use Rattle.sheet.proofs.Loads.{load_other, load_refused, load_taken, taken_fit, load_fit}
 
 both_true : (a b : Bool) → (a && b) ≡ true → (a ≡ true) × (b ≡ true)
 both_true true b e = (refl, e)
 both_true false b e = let z : ◌≡◌ {A = ℕ} 0 1 = cc in absurd (omega arith)
 
-pub same-sheet : (a b : Sheet) → sameSheet a b ≡ true → a ≡ b
-unfolding sameSheet
+pub same-sheet : (a b : Sheet) → same_sheet a b ≡ true → a ≡ b
+unfolding same_sheet
 same-sheet a b e =
-    let p = both_true (eqb a.kind b.kind) (eqb a.length b.length && (eqb a.remainder b.remainder && sameText a.text b.text)) e in
-    let q = both_true (eqb a.length b.length) (eqb a.remainder b.remainder && sameText a.text b.text) p.1 in
-    let r = both_true (eqb a.remainder b.remainder) (sameText a.text b.text) q.1 in
+    let p = both_true (eqb a.kind b.kind) (eqb a.length b.length && (eqb a.remainder b.remainder && same_text a.text b.text)) e in
+    let q = both_true (eqb a.length b.length) (eqb a.remainder b.remainder && same_text a.text b.text) p.1 in
+    let r = both_true (eqb a.remainder b.remainder) (same_text a.text b.text) q.1 in
     let kind = eqb-true a.kind b.kind p.0 in
     let size = eqb-true a.length b.length q.0 in
     let rest = eqb-true a.remainder b.remainder r.0 in
-    let text = same_text a.text b.text r.1 in
+    let text = same_text_lem a.text b.text r.1 in
     parts a.kind b.kind a.length b.length a.remainder b.remainder a.text b.text kind size rest text
   where
     parts : (k k' n n' r r' : ℕ) (t t' : List ℕ) → k ≡ k' → n ≡ n' → r ≡ r' → t ≡ t'
         → ◌≡◌ {A = Sheet} (record { kind = k; length = n; remainder = r; text = t }) (record { kind = k'; length = n'; remainder = r'; text = t' })
     parts k k' n n' r r' t t' p q x y = cc
 
-pub sheet-same : (a : Sheet) → sameSheet a a ≡ true
-unfolding sameSheet
+pub sheet-same : (a : Sheet) → same_sheet a a ≡ true
+unfolding same_sheet
 sheet-same a = rw (eq-eqb a.kind a.kind refl, eq-eqb a.length a.length refl, eq-eqb a.remainder a.remainder refl) (text_same a.text)
 
 -- a text copied over zeros
@@ -53,81 +53,81 @@ padded-past zero (b ∷ t) h = absurd (omega arith)
 padded-past (suc n) [] h = refl
 padded-past (suc n) (b ∷ t) h = ap (λ (l : List ℕ). b ∷ l) (padded-past n t (omega arith))
 
-pub copied-text : (t u zeros out : List ℕ) → zeros ≡ padded 34 [] → u ≡ take 34 t → out ≡ take (length u) u ++ drop (length u) zeros → out ≡ padded 34 (take 34 t)
-copied-text t u zeros out z f e =
+pub copied_text : (t u zeros out : List ℕ) → zeros ≡ padded 34 [] → u ≡ take 34 t → out ≡ take (length u) u ++ drop (length u) zeros → out ≡ padded 34 (take 34 t)
+copied_text t u zeros out z f e =
     let few : length u ≤ 34 = omega (arith, ap length f, length-take 34 t) in
     e ∙ rw (take-length u, z) (sym (padded-past 34 u few)) ∙ ap (padded 34) f
 
-pub held_of : (kind : ℕ) (t : List ℕ) → length t ≤ 34 → held (sheetOf kind t) ≡ t
-unfolding sheetOf
+pub held_of : (kind : ℕ) (t : List ℕ) → length t ≤ 34 → held (sheet_of kind t) ≡ t
+unfolding sheet_of
 held_of kind t h = padded-front 34 t h
 
 -- a sheet that holds a text that fits
 pub record Stood (s : Sheet) : Type 0 where
   pub fit : Fit s.kind (held s)
-  pub is : s ≡ sheetOf s.kind (held s)
+  pub is : s ≡ sheet_of s.kind (held s)
 
 module _ (s : Sheet) (o : Stood s) where
-  pub stood-size : s.length ≡ length (held s)
-  unfolding sheetOf
-  stood-size = ap (λ (u : Sheet). u.length) o.is
+  pub stood_size : s.length ≡ length (held s)
+  unfolding sheet_of
+  stood_size = ap (λ (u : Sheet). u.length) o.is
 
-  pub stood-text : s.text ≡ padded 34 (held s)
-  unfolding sheetOf
-  stood-text = ap (λ (u : Sheet). u.text) o.is
+  pub stood_text : s.text ≡ padded 34 (held s)
+  unfolding sheet_of
+  stood_text = ap (λ (u : Sheet). u.text) o.is
 
-  pub stood-few : (5 ≤ s.length) × (s.length ≤ 34)
-  stood-few = let l = fit-few s.kind (held s) o.fit in (omega (arith, stood-size), omega (arith, stood-size))
+  pub stood_few : (5 ≤ s.length) × (s.length ≤ 34)
+  stood_few = let l = fit_few s.kind (held s) o.fit in (omega (arith, stood_size), omega (arith, stood_size))
 
-pub sheet-stood : (kind : ℕ) (t : List ℕ) → Fit kind t → Stood (sheetOf kind t)
-unfolding sheetOf
-sheet-stood kind t f =
-    let e = padded-front 34 t (fit-few kind t f).1 in
+pub sheet_stood : (kind : ℕ) (t : List ℕ) → Fit kind t → Stood (sheet_of kind t)
+unfolding sheet_of
+sheet_stood kind t f =
+    let e = padded-front 34 t (fit_few kind t f).1 in
     record { fit = rw e f; is = rw e }
 
 -- what stands is such a sheet
-not-empty : (s : Sheet) → T (sheetKind s.kind) → sameSheet s emptySheet ≡ false
-unfolding sameSheet emptySheet
-not-empty s k = let w = within-ends 1 2 s.kind k in rw (ne_eqb s.kind 0 (λ e. omega arith))
+not_empty : (s : Sheet) → T (sheet_kind s.kind) → same_sheet s empty_sheet ≡ false
+unfolding same_sheet empty_sheet
+not_empty s k = let w = within-ends 1 2 s.kind k in rw (ne_eqb s.kind 0 (λ e. omega arith))
 
-is-empty : (s t : Sheet) → t ≡ emptySheet → sameSheet t s ≡ true → sameSheet s emptySheet ≡ true
-is-empty s t e f = rw (← e, ← same-sheet t s f) (sheet-same t)
+is_empty : (s t : Sheet) → t ≡ empty_sheet → same_sheet t s ≡ true → same_sheet s empty_sheet ≡ true
+is_empty s t e f = rw (← e, ← same-sheet t s f) (sheet-same t)
 
-holds-itself : (s : Sheet) (kind : ℕ) (t : List ℕ) → Fit kind t → sheetOf kind t ≡ s → Stood s
-holds-itself s kind t f e = rw e at (sheet-stood kind t f)
+holds_itself : (s : Sheet) (kind : ℕ) (t : List ℕ) → Fit kind t → sheet_of kind t ≡ s → Stood s
+holds_itself s kind t f e = rw e at (sheet_stood kind t f)
 
 pub stood : (s : Sheet) → standing s ≡ true → Stood s
 unfolding standing
-stood s e = by (sameSheet s emptySheet) refl (sheetKind s.kind) refl (summed (checkField s.kind (held s))) refl e
+stood s e = by (same_sheet s empty_sheet) refl (sheet_kind s.kind) refl (summed (check_field s.kind (held s))) refl e
   where
     own : Repaired
-    own = load_of s.kind (held s) emptySheet
+    own = load_of s.kind (held s) empty_sheet
 
-    by : (a : Bool) → sameSheet s emptySheet ≡ a → (b : Bool) → sheetKind s.kind ≡ b → (c : Bool) → summed (checkField s.kind (held s)) ≡ c
-        → cond a false (sameSheet own.sheet s) ≡ true → Stood s
+    by : (a : Bool) → same_sheet s empty_sheet ≡ a → (b : Bool) → sheet_kind s.kind ≡ b → (c : Bool) → summed (check_field s.kind (held s)) ≡ c
+        → cond a false (same_sheet own.sheet s) ≡ true → Stood s
     by true p b q c r f = let z : ◌≡◌ {A = ℕ} 0 1 = cc in absurd (omega arith)
     by false p false q c r f =
-        let g = is-empty s own.sheet (ap (λ (x : Repaired). x.sheet) (load-other s.kind (held s) emptySheet q)) f in
+        let g = is_empty s own.sheet (ap (λ (x : Repaired). x.sheet) (load_other s.kind (held s) empty_sheet q)) f in
         let z : ◌≡◌ {A = ℕ} 0 1 = cc in absurd (omega arith)
     by false p true q false r f =
-        let g = is-empty s own.sheet (ap (λ (x : Repaired). x.sheet) (load-refused s.kind (held s) emptySheet q r)) f in
+        let g = is_empty s own.sheet (ap (λ (x : Repaired). x.sheet) (load_refused s.kind (held s) empty_sheet q r)) f in
         let z : ◌≡◌ {A = ℕ} 0 1 = cc in absurd (omega arith)
     by false p true q true r f =
-        holds-itself s s.kind (heldText s.kind (held s)) (taken-fit s.kind (held s) (rw q tt) r)
-        (sym (ap (λ (x : Repaired). x.sheet) (load-taken s.kind (held s) emptySheet q r)) ∙ same-sheet own.sheet s f)
+        holds_itself s s.kind (held_text s.kind (held s)) (taken_fit s.kind (held s) (rw q tt) r)
+        (sym (ap (λ (x : Repaired). x.sheet) (load_taken s.kind (held s) empty_sheet q r)) ∙ same-sheet own.sheet s f)
 
 -- and such a sheet stands
 pub stands : (s : Sheet) → Stood s → standing s ≡ true
 unfolding standing
 stands s o =
-    let own : (load_of s.kind (held s) emptySheet).sheet ≡ s = ap (λ (x : Repaired). x.sheet) (load-fit s.kind (held s) emptySheet o.fit) ∙ sym o.is in
-    rw (not-empty s o.fit.known, own) (sheet-same s)
+    let own : (load_of s.kind (held s) empty_sheet).sheet ≡ s = ap (λ (x : Repaired). x.sheet) (load_fit s.kind (held s) empty_sheet o.fit) ∙ sym o.is in
+    rw (not_empty s o.fit.known, own) (sheet-same s)
 
 -- the two tests of the code
-pub empty-falls : (s : Sheet) → sameSheet s emptySheet ≡ true → standing s ≡ false
+pub empty_falls : (s : Sheet) → same_sheet s empty_sheet ≡ true → standing s ≡ false
 unfolding standing
-empty-falls s e = rw e
+empty_falls s e = rw e
 
-pub by-own : (s : Sheet) → sameSheet s emptySheet ≡ false → standing s ≡ sameSheet (load_of s.kind (held s) emptySheet).sheet s
+pub by_own : (s : Sheet) → same_sheet s empty_sheet ≡ false → standing s ≡ same_sheet (load_of s.kind (held s) empty_sheet).sheet s
 unfolding standing
-by-own s e = rw e
+by_own s e = rw e

@@ -6,8 +6,8 @@ use Rattle.answer.specs.declared.Answer.{Answer}
 use Rattle.answer.specs.declared.Answer.TheVariants.{Refused}
 use Rattle.answer.specs.declared.Reason.{Reason}
 use Rattle.answer.specs.declared.Reason.TheVariants.{UnknownKind}
-use Rattle.field.specs.Field.{checkField}
-use Rattle.sheet.specs.Sheets.{sheetKind, heldText, sheetOf, emptySheet, held, sameSheet}
+use Rattle.field.specs.Field.{check_field}
+use Rattle.sheet.specs.Sheets.{sheet_kind, held_text, sheet_of, empty_sheet, held, same_sheet}
 use Rattle.sheet.specs.declared.Sheet.{Sheet}
 use Rattle.sheet.specs.declared.Repaired.{Repaired}
 
@@ -21,10 +21,10 @@ summed a = eqb (number_of a) 0 || eqb (number_of a) 5
 
 unfoldable pub load_of : ℕ → List ℕ → Sheet → Repaired
 load_of kind s old =
-    cond (sheetKind kind)
-    (record { answer = checkField kind s; sheet = cond (summed (checkField kind s)) (sheetOf kind (heldText kind s)) old })
+    cond (sheet_kind kind)
+    (record { answer = check_field kind s; sheet = cond (summed (check_field kind s)) (sheet_of kind (held_text kind s)) old })
     (refusal old (UnknownKind kind) 24)
 
 -- a sheet stands where it is not empty, and is the one that loading its own text into an empty sheet gives
 unfoldable pub standing : Sheet → Bool
-standing s = cond (sameSheet s emptySheet) false (sameSheet (load_of s.kind (held s) emptySheet).sheet s)
+standing s = cond (same_sheet s empty_sheet) false (same_sheet (load_of s.kind (held s) empty_sheet).sheet s)

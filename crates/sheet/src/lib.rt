@@ -2,11 +2,11 @@
 ghost use Rattle.std.specs.Prelude.{◌≡◌, take};
 ghost use Rattle.answer.specs.declared.Step.{Step};
 ghost use Rattle.answer.specs.declared.Reason.{Reason};
-ghost use Rattle.text.specs.Same.{sameText};
+ghost use Rattle.text.specs.Same.{same_text};
 ghost use Rattle.iban.specs.Format.{padded};
-ghost use Rattle.sheet.specs.Sheets.{sheetKind, heldText, characters, remainderBy, sheetOf, emptySheet, sameSheet};
+ghost use Rattle.sheet.specs.Sheets.{sheet_kind, held_text, characters, remainder_by, sheet_of, empty_sheet, same_sheet};
 ghost use Rattle.sheet.specs.Load.{refusal, summed, load_of, standing};
-ghost use Rattle.sheet.specs.Inner.{sheetWith};
+ghost use Rattle.sheet.specs.Inner.{sheet_with};
 
 use answer::{Answer, Reason, Step};
 
@@ -26,7 +26,7 @@ pub struct Repaired {
 }
 
 pub fn empty() -> Sheet
-    ensures { result ≡ emptySheet }
+    ensures { result ≡ empty_sheet }
 {
     Sheet {
         kind: 0,
@@ -57,7 +57,7 @@ pub fn front(t: &[u8], n: usize) -> &[u8]
 }
 
 fn is_sheet_kind(kind: u16) -> bool
-    ensures { result ≡ sheetKind kind }
+    ensures { result ≡ sheet_kind kind }
 {
     if kind < 1 {
         return false;
@@ -77,7 +77,7 @@ pub fn characters(kind: u16, t: &[u8]) -> Step
 }
 
 pub fn remainder(kind: u16, t: &[u8]) -> u64
-    ensures { result ≡ remainderBy kind t.now }
+    ensures { result ≡ remainder_by kind t.now }
 {
     if kind == 1 {
         return checkdigit::iban_remainder(t);
@@ -96,7 +96,7 @@ fn copied(t: &[u8]) -> [u8; 34]
 
 // A sheet of these parts; its remainder is that of its text.
 fn sheet_with(kind: u16, length: usize, text: [u8; 34]) -> Sheet
-    ensures { result ≡ sheetWith kind length text }
+    ensures { result ≡ sheet_with kind length text }
 {
     Sheet {
         kind,
@@ -108,7 +108,7 @@ fn sheet_with(kind: u16, length: usize, text: [u8; 34]) -> Sheet
 
 // The sheet that holds a field, where the field passes every step but the remainder.
 fn sheet_of(kind: u16, field: &[u8]) -> Sheet
-    ensures { characters kind field.now ≡ Step.Pass → result ≡ sheetOf kind (heldText kind field.now) }
+    ensures { characters kind field.now ≡ Step.Pass → result ≡ sheet_of kind (held_text kind field.now) }
 {
     if kind == 1 {
         let e = iban::electronic_format(field);
@@ -146,7 +146,7 @@ pub fn load(kind: u16, field: &[u8], old: Sheet) -> Repaired
 }
 
 fn same_text(a: [u8; 34], b: [u8; 34]) -> bool
-    ensures { result ≡ sameText a b }
+    ensures { result ≡ same_text a b }
 {
     let mut i = 0;
     while i < 34 {
@@ -159,7 +159,7 @@ fn same_text(a: [u8; 34], b: [u8; 34]) -> bool
 }
 
 fn same(a: Sheet, b: Sheet) -> bool
-    ensures { result ≡ sameSheet a b }
+    ensures { result ≡ same_sheet a b }
 {
     if a.kind != b.kind {
         return false;

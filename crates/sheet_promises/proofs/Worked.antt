@@ -3,32 +3,32 @@ use Prim.Native.Nat.{ℕ}
 use Prim.Native.String.{String}
 use mathlib.Core.Path.{◌≡◌, refl}
 use mathlib.Core.List.{List, [], ◌∷◌, map}
-use Rattle.answer.specs.Steps.{◌andThen◌, ◌orAccept◌}
+use Rattle.answer.specs.Steps.{◌and_then◌, ◌or_accept◌}
 use Rattle.answer.specs.declared.Answer.{Answer}
 use Rattle.answer.specs.declared.Answer.TheVariants.{Accepted, Refused}
 use Rattle.answer.specs.declared.Reason.TheVariants.{Length, Wrong, Remainder, UnknownKind, NoSheet, NoPlace, Unfit}
 use Rattle.text.specs.Class.{class_of}
-use Rattle.text.specs.Decimal.{decimal, numberWritten}
-use Rattle.text.specs.Field.{lengthIs, wrongFrom, firstWrong}
+use Rattle.text.specs.Decimal.{decimal, number_written}
+use Rattle.text.specs.Field.{length_is, wrong_from, first_wrong}
 use Rattle.text.specs.Quote.{bytes_of}
-use Rattle.text.specs.Same.{sameText}
-use Rattle.utf8.specs.Rfc3629.{leadOf, needed, wellFormed, scalarOf, charOf, front}
-use Rattle.utf8.specs.Chars.{charsPast, widths, validPrefix}
-use Rattle.utf8.specs.Space.{whiteSpace}
-use Rattle.checkdigit.specs.Letter.{letterValue}
-use Rattle.checkdigit.specs.Sum.{characterValue, characterDigits, expand, remainderOf, rearranged, ibanRemainder}
-use Rattle.checkdigit.specs.RemainderStep.{remainderStep}
-use Rattle.iban.specs.Electronic.{electronicFrom, electronic, text_of, place_in}
-use Rattle.iban.specs.Iban.{allAscii, asciiStep, countStep, classSteps, reasonIn, ibanCharacters, ibanAnswer}
+use Rattle.text.specs.Same.{same_text}
+use Rattle.utf8.specs.Rfc3629.{lead_of, needed, well_formed, scalar_of, char_of, front}
+use Rattle.utf8.specs.Chars.{chars_past, widths, valid_prefix}
+use Rattle.utf8.specs.Space.{white_space}
+use Rattle.checkdigit.specs.Letter.{letter_value}
+use Rattle.checkdigit.specs.Sum.{character_value, character_digits, expand, remainder_of, rearranged, iban_remainder}
+use Rattle.checkdigit.specs.RemainderStep.{remainder_step}
+use Rattle.iban.specs.Electronic.{electronic_from, electronic, text_of, place_in}
+use Rattle.iban.specs.Iban.{all_ascii, ascii_step, count_step, class_steps, reason_in, iban_characters, iban_answer}
 use Rattle.iban.specs.Format.{padded}
-use Rattle.lei.specs.Lei.{leiCharacters, leiAnswer}
-use Rattle.field.specs.Field.{admission, ruleOf, checkField}
-use Rattle.sheet.specs.Sheets.{heldText, characters, remainderBy, sheetOf, emptySheet, held, sameSheet}
+use Rattle.lei.specs.Lei.{lei_characters, lei_answer}
+use Rattle.field.specs.Field.{admission, rule_of, check_field}
+use Rattle.sheet.specs.Sheets.{held_text, characters, remainder_by, sheet_of, empty_sheet, held, same_sheet}
 use Rattle.sheet.specs.Load.{summed, load_of, standing}
 use Rattle.repairs.specs.declared.Request.{Request}
-use Rattle.repairs.specs.Repairs.{filled, asked, placeStep, byteStep, textStep, givenSteps, requestSteps, sheetStep, repairBy, repairOf}
+use Rattle.repairs.specs.Repairs.{filled, asked, place_step, byte_step, text_step, given_steps, request_steps, sheet_step, repair_by, repair_of}
 use Rattle.repairs.specs.declared.Request.TheVariants.{Replace, Exchange, Fill}
-use Rattle.sheet_promises.specs.Calls.{callsAfter}
+use Rattle.sheet_promises.specs.Calls.{calls_after}
 use Rattle.sheet.specs.declared.Sheet.{Sheet}
 use Rattle.sheet.specs.declared.Repaired.{Repaired}
 
@@ -76,7 +76,7 @@ table =
     ∷ []
 
 abbrev last : Case → Repaired
-last c = callsAfter (load_of c.kind (bytes_of c.field) emptySheet) c.calls
+last c = calls_after (load_of c.kind (bytes_of c.field) empty_sheet) c.calls
 
 -- a sheet that no load gives: its remainder, or a byte past its length
 abbrev forged : List Sheet
@@ -88,6 +88,6 @@ forged =
 
 pub worked : (map (λ c. (last c).answer) table ≡ map (λ c. c.answer) table)
     × (map (λ c. held (last c).sheet) table ≡ map (λ c. bytes_of c.text) table)
-    × (map (λ s. (repairOf s Fill).answer) forged ≡ Refused NoSheet 20 ∷ Refused NoSheet 20 ∷ Refused NoSheet 20 ∷ [])
-unfolding class_of decimal numberWritten lengthIs wrongFrom firstWrong leadOf needed wellFormed scalarOf charOf front charsPast widths validPrefix whiteSpace letterValue characterValue characterDigits expand remainderOf rearranged ibanRemainder remainderStep electronicFrom electronic text_of place_in allAscii asciiStep countStep classSteps reasonIn ibanCharacters ibanAnswer padded leiCharacters leiAnswer admission ruleOf checkField heldText characters remainderBy sheetOf emptySheet sameText sameSheet summed load_of standing filled asked placeStep byteStep textStep givenSteps requestSteps sheetStep repairBy repairOf callsAfter ◌andThen◌ ◌orAccept◌
+    × (map (λ s. (repair_of s Fill).answer) forged ≡ Refused NoSheet 20 ∷ Refused NoSheet 20 ∷ Refused NoSheet 20 ∷ [])
+unfolding class_of decimal number_written length_is wrong_from first_wrong lead_of needed well_formed scalar_of char_of front chars_past widths valid_prefix white_space letter_value character_value character_digits expand remainder_of rearranged iban_remainder remainder_step electronic_from electronic text_of place_in all_ascii ascii_step count_step class_steps reason_in iban_characters iban_answer padded lei_characters lei_answer admission rule_of check_field held_text characters remainder_by sheet_of empty_sheet same_text same_sheet summed load_of standing filled asked place_step byte_step text_step given_steps request_steps sheet_step repair_by repair_of calls_after ◌and_then◌ ◌or_accept◌
 worked = (refl, refl, refl)

@@ -7,7 +7,7 @@ use borrow.Rule.Slice.PartMut.{put_mid}
 use lib.ListN.{length, set, take, drop, drop_of_length-le}
 use lib.Seq.{take-length, drop-drop}
 use Rattle.record.specs.Number.{to_bytes}
-use Rattle.stitchbarrow.specs.Sheets.{sheetSize, sheetBytes}
+use Rattle.stitchbarrow.specs.Sheets.{sheet_size, sheet_bytes}
 use Rattle.sheet.specs.declared.Sheet.{Sheet}
 
 pub three : (l : List ℕ) (a b c : ℕ) → 3 ≤ length l → set (set (set l 0 a) 1 b) 2 c ≡ (a ∷ b ∷ c ∷ []) ++ drop 3 l
@@ -17,13 +17,13 @@ three (x ∷ y ∷ []) a b c h = absurd (omega arith)
 three (x ∷ y ∷ z ∷ l) a b c h = refl
 
 -- a copy that fills what it is copied to
-pub copied-whole : (s to out : List ℕ) → length to ≤ length s → out ≡ take (length s) s ++ drop (length s) to → out ≡ s
-copied-whole s to out h e = e ∙ rw (take-length s, drop_of_length-le to h) (append-nil s)
+pub copied_whole : (s to out : List ℕ) → length to ≤ length s → out ≡ take (length s) s ++ drop (length s) to → out ≡ s
+copied_whole s to out h e = e ∙ rw (take-length s, drop_of_length-le to h) (append-nil s)
 
 -- a sheet's parts, each in its place
 pub laid : (s : Sheet) (b p q r t : List ℕ) → p ≡ to_bytes 2 s.kind → q ≡ to_bytes 2 s.length → r ≡ to_bytes 8 s.remainder → t ≡ s.text
-    → put_mid 12 34 (put_mid 4 8 (put_mid 2 2 (p ++ drop 2 b) q) r) t ≡ sheetBytes s ++ drop sheetSize b
-unfolding sheetBytes
+    → put_mid 12 34 (put_mid 4 8 (put_mid 2 2 (p ++ drop 2 b) q) r) t ≡ sheet_bytes s ++ drop sheet_size b
+unfolding sheet_bytes
 laid s b p q r t kind size rest text =
-    let past : drop 34 (drop 8 (drop 2 (drop 2 b))) ≡ drop sheetSize b = simp drop-drop in
-    rw (kind, size, rest, text) (ap (λ (l : List ℕ). sheetBytes s ++ l) past)
+    let past : drop 34 (drop 8 (drop 2 (drop 2 b))) ≡ drop sheet_size b = simp drop-drop in
+    rw (kind, size, rest, text) (ap (λ (l : List ℕ). sheet_bytes s ++ l) past)

@@ -5,18 +5,18 @@ use mathlib.Core.List.{List}
 use borrow.Author.Tests.{lt-ltb, le-ltb}
 use lib.ListN.{length}
 use Rattle.sheet.specs.declared.Repaired.{Repaired}
-use Rattle.stitchbarrow.specs.Sheets.{sheetSize}
-use Rattle.stitchbarrow.specs.Reply.{answerSize, SheetReply, handed, sheetReply}
+use Rattle.stitchbarrow.specs.Sheets.{sheet_size}
+use Rattle.stitchbarrow.specs.Reply.{answer_size, SheetReply, handed, sheet_reply}
 
 module _ (r : Repaired) (sheet answer : List ℕ) where
-  pub short-sheet : length sheet < sheetSize → record { code = 255; sheet = sheet; answer = answer } ≡ sheetReply r sheet answer
-  unfolding sheetReply
-  short-sheet s = rw (lt-ltb (length sheet) sheetSize s)
+  pub short-sheet : length sheet < sheet_size → record { code = 255; sheet = sheet; answer = answer } ≡ sheet_reply r sheet answer
+  unfolding sheet_reply
+  short-sheet s = rw (lt-ltb (length sheet) sheet_size s)
 
-  pub short-answer : sheetSize ≤ length sheet → length answer < answerSize → record { code = 255; sheet = sheet; answer = answer } ≡ sheetReply r sheet answer
-  unfolding sheetReply
-  short-answer s a = rw (le-ltb (length sheet) sheetSize s, lt-ltb (length answer) answerSize a)
+  pub short-answer : sheet_size ≤ length sheet → length answer < answer_size → record { code = 255; sheet = sheet; answer = answer } ≡ sheet_reply r sheet answer
+  unfolding sheet_reply
+  short-answer s a = rw (le-ltb (length sheet) sheet_size s, lt-ltb (length answer) answer_size a)
 
-  pub both-written : sheetSize ≤ length sheet → answerSize ≤ length answer → handed r sheet answer ≡ sheetReply r sheet answer
-  unfolding sheetReply
-  both-written s a = rw (le-ltb (length sheet) sheetSize s, le-ltb (length answer) answerSize a)
+  pub both_written : sheet_size ≤ length sheet → answer_size ≤ length answer → handed r sheet answer ≡ sheet_reply r sheet answer
+  unfolding sheet_reply
+  both_written s a = rw (le-ltb (length sheet) sheet_size s, le-ltb (length answer) answer_size a)

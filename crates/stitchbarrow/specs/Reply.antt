@@ -2,27 +2,27 @@
 use Rattle.std.specs.Prelude.{ℕ, Bool, ◌||◌, cond, List, [], ◌∷◌, ◌++◌, ltb, length, drop}
 use Rattle.answer.specs.Table.{number_of}
 use Rattle.answer.specs.declared.Answer.{Answer}
-use Rattle.field.specs.Field.{checkField}
-use Rattle.verdict.specs.Verdict.{answerBytes}
-use Rattle.batch.specs.Walk.{Outcome, call_of, stopNumber}
+use Rattle.field.specs.Field.{check_field}
+use Rattle.verdict.specs.Verdict.{answer_bytes}
+use Rattle.batch.specs.Walk.{Outcome, call_of, stop_number}
 use Rattle.sheet.specs.declared.Repaired.{Repaired}
-use Rattle.stitchbarrow.specs.Sheets.{sheetSize, sheetBytes}
+use Rattle.stitchbarrow.specs.Sheets.{sheet_size, sheet_bytes}
 
 -- the byte that is returned, and the answer's slice
 pub record Reply : Type 0 where
   pub code : ℕ
   pub bytes : List ℕ
 
-abbrev pub answerSize : ℕ
-answerSize = 12
+abbrev pub answer_size : ℕ
+answer_size = 12
 
 -- an answer in the first 12 bytes of a slice, the others as lent
-unfoldable pub answerReply : Answer → List ℕ → Reply
-answerReply a answer = record { code = number_of a; bytes = answerBytes a ++ drop answerSize answer }
+unfoldable pub answer_reply : Answer → List ℕ → Reply
+answer_reply a answer = record { code = number_of a; bytes = answer_bytes a ++ drop answer_size answer }
 
-unfoldable pub checkReply : ℕ → List ℕ → List ℕ → Reply
-checkReply kind value answer =
-    cond (ltb (length answer) answerSize) (record { code = 255; bytes = answer }) (answerReply (checkField kind value) answer)
+unfoldable pub check_reply : ℕ → List ℕ → List ℕ → Reply
+check_reply kind value answer =
+    cond (ltb (length answer) answer_size) (record { code = 255; bytes = answer }) (answer_reply (check_field kind value) answer)
 
 -- the byte that is returned, the output and the counts
 pub record RunReply : Type 0 where
@@ -30,12 +30,12 @@ pub record RunReply : Type 0 where
   pub out : List ℕ
   pub counts : List ℕ
 
-abbrev pub runAnswered : Outcome → List ℕ → RunReply
-runAnswered r counts = record { code = stopNumber r.stop; out = r.out; counts = (r.judged ∷ r.read ∷ r.written ∷ []) ++ drop 3 counts }
+abbrev pub run_answered : Outcome → List ℕ → RunReply
+run_answered r counts = record { code = stop_number r.stop; out = r.out; counts = (r.judged ∷ r.read ∷ r.written ∷ []) ++ drop 3 counts }
 
-unfoldable pub runReply : List ℕ → ℕ → List ℕ → ℕ → List ℕ → RunReply
-runReply batch offset out budget counts =
-    cond (ltb (length counts) 3) (record { code = 255; out = out; counts = counts }) (runAnswered (call_of batch offset out budget) counts)
+unfoldable pub run_reply : List ℕ → ℕ → List ℕ → ℕ → List ℕ → RunReply
+run_reply batch offset out budget counts =
+    cond (ltb (length counts) 3) (record { code = 255; out = out; counts = counts }) (run_answered (call_of batch offset out budget) counts)
 
 -- the byte that is returned, the sheet's slice and the answer's
 pub record SheetReply : Type 0 where
@@ -48,14 +48,14 @@ unfoldable pub handed : Repaired → List ℕ → List ℕ → SheetReply
 handed r sheet answer =
     record {
       code = number_of r.answer;
-      sheet = sheetBytes r.sheet ++ drop sheetSize sheet;
-      answer = answerBytes r.answer ++ drop answerSize answer;
+      sheet = sheet_bytes r.sheet ++ drop sheet_size sheet;
+      answer = answer_bytes r.answer ++ drop answer_size answer;
     }
 
 -- one of the two slices, of these lengths, is too short
-abbrev pub tooShort : ℕ → ℕ → Bool
-tooShort sheet answer = ltb sheet sheetSize || ltb answer answerSize
+abbrev pub too_short : ℕ → ℕ → Bool
+too_short sheet answer = ltb sheet sheet_size || ltb answer answer_size
 
-unfoldable pub sheetReply : Repaired → List ℕ → List ℕ → SheetReply
-sheetReply r sheet answer =
-    cond (tooShort (length sheet) (length answer)) (record { code = 255; sheet = sheet; answer = answer }) (handed r sheet answer)
+unfoldable pub sheet_reply : Repaired → List ℕ → List ℕ → SheetReply
+sheet_reply r sheet answer =
+    cond (too_short (length sheet) (length answer)) (record { code = 255; sheet = sheet; answer = answer }) (handed r sheet answer)

@@ -1,18 +1,18 @@
 // The interface for C and other languages: functions over numbers and lent slices, as include/stitchbarrow.h declares them.
 ghost use Rattle.std.specs.Prelude.{◌≡◌, ◌++◌, ◌≤◌, length, drop};
 ghost use Rattle.sheet.specs.Load.{load_of};
-ghost use Rattle.repairs.specs.Repairs.{repairOf};
+ghost use Rattle.repairs.specs.Repairs.{repair_of};
 ghost use Rattle.repairs.specs.declared.Request.{Request};
-ghost use Rattle.stitchbarrow.specs.Sheets.{sheetSize, sheetAt, sheetBytes};
+ghost use Rattle.stitchbarrow.specs.Sheets.{sheet_size, sheet_at, sheet_bytes};
 ghost use Rattle.stitchbarrow.specs.Reply.{
-  answerSize,
+  answer_size,
   Reply,
-  answerReply,
-  checkReply,
+  answer_reply,
+  check_reply,
   RunReply,
-  runReply,
+  run_reply,
   SheetReply,
-  sheetReply,
+  sheet_reply,
 };
 ghost use Rattle.stitchbarrow.specs.Inner.{made_of};
 
@@ -37,8 +37,8 @@ const SHEET_SIZE: usize = 46;
 
 // An answer, written to the first 12 bytes of `answer`.
 fn tell(a: Answer, answer: &mut [u8]) -> u8
-    requires { answerSize ≤ length answer.old }
-    ensures { record { code = result; bytes = answer.new } ≡ answerReply a answer.old }
+    requires { answer_size ≤ length answer.old }
+    ensures { record { code = result; bytes = answer.new } ≡ answer_reply a answer.old }
 {
     let bytes = verdict::answer_bytes(a);
     bytes::copy(&bytes, answer);
@@ -48,7 +48,7 @@ fn tell(a: Answer, answer: &mut [u8]) -> u8
 // The answer to a field, written to the first 12 bytes of `answer`.
 #[unsafe(no_mangle)]
 pub extern "C" fn stitchbarrow_check(kind: u16, value: &[u8], answer: &mut [u8]) -> u8
-    ensures { record { code = result; bytes = answer.new } ≡ checkReply kind value.now answer.old }
+    ensures { record { code = result; bytes = answer.new } ≡ check_reply kind value.now answer.old }
 {
     if answer.len() < ANSWER_SIZE {
         return TOO_SHORT;
@@ -65,7 +65,7 @@ pub extern "C" fn stitchbarrow_run(
     budget: u64,
     counts: &mut [u64],
 ) -> u8
-    ensures { record { code = result; out = out.new; counts = counts.new } ≡ runReply batch.now offset out.old budget counts.old }
+    ensures { record { code = result; out = out.new; counts = counts.new } ≡ run_reply batch.now offset out.old budget counts.old }
 {
     if counts.len() < 3 {
         return TOO_SHORT;
@@ -79,8 +79,8 @@ pub extern "C" fn stitchbarrow_run(
 }
 
 fn read_sheet(b: &[u8]) -> Sheet
-    requires { sheetSize ≤ length b.now }
-    ensures { result ≡ sheetAt b.now }
+    requires { sheet_size ≤ length b.now }
+    ensures { result ≡ sheet_at b.now }
 {
     let kind = record::read_number(&b[0..2]) as u16;
     let length = record::read_number(&b[2..4]) as usize;
@@ -96,8 +96,8 @@ fn read_sheet(b: &[u8]) -> Sheet
 }
 
 fn write_sheet(b: &mut [u8], s: Sheet)
-    requires { sheetSize ≤ length b.old }
-    ensures { b.new ≡ sheetBytes s ++ drop sheetSize b.old }
+    requires { sheet_size ≤ length b.old }
+    ensures { b.new ≡ sheet_bytes s ++ drop sheet_size b.old }
 {
     record::write_number(&mut b[0..2], s.kind as u64);
     record::write_number(&mut b[2..4], s.length as u64);
@@ -118,7 +118,7 @@ fn made(call: Call, value: &[u8], old: Sheet) -> Repaired
 // Makes a call on the sheet that the first 46 bytes of `sheet` write, and writes the new sheet there and the answer to `answer`. Only a load
 // reads `value`.
 fn reply(call: Call, value: &[u8], sheet: &mut [u8], answer: &mut [u8]) -> u8
-    ensures { record { code = result; sheet = sheet.new; answer = answer.new } ≡ sheetReply (made_of call value.now (sheetAt sheet.old)) sheet.old answer.old }
+    ensures { record { code = result; sheet = sheet.new; answer = answer.new } ≡ sheet_reply (made_of call value.now (sheet_at sheet.old)) sheet.old answer.old }
 {
     if sheet.len() < SHEET_SIZE {
         return TOO_SHORT;
@@ -141,7 +141,7 @@ pub extern "C" fn stitchbarrow_load(
     sheet: &mut [u8],
     answer: &mut [u8],
 ) -> u8
-    ensures { record { code = result; sheet = sheet.new; answer = answer.new } ≡ sheetReply (load_of kind value.now (sheetAt sheet.old)) sheet.old answer.old }
+    ensures { record { code = result; sheet = sheet.new; answer = answer.new } ≡ sheet_reply (load_of kind value.now (sheet_at sheet.old)) sheet.old answer.old }
 {
     reply(Call::Load { kind }, value, sheet, answer)
 }
@@ -154,7 +154,7 @@ pub extern "C" fn stitchbarrow_replace(
     byte: u8,
     answer: &mut [u8],
 ) -> u8
-    ensures { record { code = result; sheet = sheet.new; answer = answer.new } ≡ sheetReply (repairOf (sheetAt sheet.old) (Request.Replace place byte)) sheet.old answer.old }
+    ensures { record { code = result; sheet = sheet.new; answer = answer.new } ≡ sheet_reply (repair_of (sheet_at sheet.old) (Request.Replace place byte)) sheet.old answer.old }
 {
     let request = Request::Replace { place, byte };
     reply(Call::Repair { request }, b"", sheet, answer)
@@ -168,7 +168,7 @@ pub extern "C" fn stitchbarrow_exchange(
     j: usize,
     answer: &mut [u8],
 ) -> u8
-    ensures { record { code = result; sheet = sheet.new; answer = answer.new } ≡ sheetReply (repairOf (sheetAt sheet.old) (Request.Exchange i j)) sheet.old answer.old }
+    ensures { record { code = result; sheet = sheet.new; answer = answer.new } ≡ sheet_reply (repair_of (sheet_at sheet.old) (Request.Exchange i j)) sheet.old answer.old }
 {
     let request = Request::Exchange { i, j };
     reply(Call::Repair { request }, b"", sheet, answer)
@@ -177,7 +177,7 @@ pub extern "C" fn stitchbarrow_exchange(
 // Sets the check digits of the held text.
 #[unsafe(no_mangle)]
 pub extern "C" fn stitchbarrow_fill(sheet: &mut [u8], answer: &mut [u8]) -> u8
-    ensures { record { code = result; sheet = sheet.new; answer = answer.new } ≡ sheetReply (repairOf (sheetAt sheet.old) Request.Fill) sheet.old answer.old }
+    ensures { record { code = result; sheet = sheet.new; answer = answer.new } ≡ sheet_reply (repair_of (sheet_at sheet.old) Request.Fill) sheet.old answer.old }
 {
     let request = Request::Fill;
     reply(Call::Repair { request }, b"", sheet, answer)

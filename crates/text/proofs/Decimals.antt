@@ -11,9 +11,9 @@ use lib.Dec.{T, leb, ltb, leb→le}
 use lib.Pow.{pow-add}
 use lib.ListN.{length, take, drop, get_or, length-append, length-map, take-append-drop}
 use lib.Seq.{take-suc}
-use Rattle.text.specs.Decimal.{decimal, digitOf, numberWritten, fitted}
+use Rattle.text.specs.Decimal.{decimal, digit_of, number_written, fitted}
 use Rattle.text.specs.declared.Number.TheVariants.{Fits, Over}
-use Rattle.text.proofs.Ranges.{both-parts, every}
+use Rattle.text.proofs.Ranges.{both_parts, every}
 
 pub decimal-append : (x y : List ℕ) → decimal (x ++ y) ≡ decimal x * 10 ^ length y + decimal y
 unfolding decimal
@@ -25,37 +25,37 @@ pub decimal-most : (ds : List ℕ) → T (every (λ d. leb d 9) ds) → decimal 
 unfolding decimal
 decimal-most [] t = omega arith
 decimal-most (d ∷ ds) t =
-    let p = both-parts (leb d 9) (every (λ d. leb d 9) ds) t in
+    let p = both_parts (leb d 9) (every (λ d. leb d 9) ds) t in
     let h = leb→le d 9 p.0 in
     let k = decimal-most ds p.1 in
     let m : d * 10 ^ length ds ≤ 9 * 10 ^ length ds = mul-le-mul_right (10 ^ length ds) h in
     rw (pow-suc 10 (length ds)) (omega arith)
 
-pub number_append : (s t : List ℕ) → numberWritten (s ++ t) ≡ numberWritten s * 10 ^ length t + numberWritten t
-unfolding numberWritten
-number_append s t = rw (map-append digitOf s t, decimal-append (map digitOf s) (map digitOf t), length-map t digitOf)
+pub number_append : (s t : List ℕ) → number_written (s ++ t) ≡ number_written s * 10 ^ length t + number_written t
+unfolding number_written
+number_append s t = rw (map-append digit_of s t, decimal-append (map digit_of s) (map digit_of t), length-map t digit_of)
 
 -- one digit
-number-one : (b : ℕ) → numberWritten (b ∷ []) ≡ digitOf b
-unfolding numberWritten decimal
-number-one b = omega arith
+number_one : (b : ℕ) → number_written (b ∷ []) ≡ digit_of b
+unfolding number_written decimal
+number_one b = omega arith
 
 -- one digit more
-pub number_more : (t : List ℕ) (i : ℕ) → i < length t → numberWritten (take (i + 1) t) ≡ numberWritten (take i t) * 10 + digitOf (get_or t i 0)
+pub number_more : (t : List ℕ) (i : ℕ) → i < length t → number_written (take (i + 1) t) ≡ number_written (take i t) * 10 + digit_of (get_or t i 0)
 number_more t i h =
-    rw (add-one i, take-suc t i 0 h, number_append (take i t) (get_or t i 0 ∷ []), number-one (get_or t i 0))
+    rw (add-one i, take-suc t i 0 h, number_append (take i t) (get_or t i 0 ∷ []), number_one (get_or t i 0))
 
 -- digits that follow make a number no smaller
-pub number-grows : (i : ℕ) (t : List ℕ) → numberWritten (take i t) ≤ numberWritten t
-number-grows i t =
-    let n = numberWritten (take i t) in
+pub number_grows : (i : ℕ) (t : List ℕ) → number_written (take i t) ≤ number_written t
+number_grows i t =
+    let n = number_written (take i t) in
     let k = length (drop i t) in
-    let e : numberWritten t ≡ n * 10 ^ k + numberWritten (drop i t) = rw (take-append-drop i t) at (number_append (take i t) (drop i t)) in
+    let e : number_written t ≡ n * 10 ^ k + number_written (drop i t) = rw (take-append-drop i t) at (number_append (take i t) (drop i t)) in
     let m : n * 1 ≤ n * 10 ^ k = mul-le-mul_left n (one-le-pow k 10 (omega arith)) in
     omega arith
 
-pub number-none : numberWritten [] ≡ 0
-unfolding numberWritten decimal
+pub number-none : number_written [] ≡ 0
+unfolding number_written decimal
 number-none = refl
 
 -- the 64-bit limit: a number that fits, one that does not, and what each answer has shown
@@ -67,18 +67,18 @@ pub over : (n : ℕ) → 2 ^ 64 ≤ n → Over ≡ fitted n
 unfolding fitted
 over n h = rw (le-ltb n (2 ^ 64) h)
 
-by-test : (n m : ℕ) (t : Bool) → ltb n (2 ^ 64) ≡ t → cond t (Fits n) Over ≡ Fits m → (m ≡ n) × (n < 2 ^ 64)
-by-test n m true h e = (cc, ltb-true n (2 ^ 64) h)
-by-test n m false h e = let z : ◌≡◌ {A = ℕ} 0 1 = cc in absurd (omega arith)
+by_test : (n m : ℕ) (t : Bool) → ltb n (2 ^ 64) ≡ t → cond t (Fits n) Over ≡ Fits m → (m ≡ n) × (n < 2 ^ 64)
+by_test n m true h e = (cc, ltb-true n (2 ^ 64) h)
+by_test n m false h e = let z : ◌≡◌ {A = ℕ} 0 1 = cc in absurd (omega arith)
 
 pub fitted-is : (n m : ℕ) → fitted n ≡ Fits m → (m ≡ n) × (n < 2 ^ 64)
 unfolding fitted
-fitted-is n m e = by-test n m (ltb n (2 ^ 64)) refl e
+fitted-is n m e = by_test n m (ltb n (2 ^ 64)) refl e
 
-over-test : (t : Bool) (n : ℕ) → cond t (Fits n) Over ≡ Over → t ≡ false
-over-test true n e = let z : ◌≡◌ {A = ℕ} 0 1 = cc in absurd (omega arith)
-over-test false n e = refl
+over_test : (t : Bool) (n : ℕ) → cond t (Fits n) Over ≡ Over → t ≡ false
+over_test true n e = let z : ◌≡◌ {A = ℕ} 0 1 = cc in absurd (omega arith)
+over_test false n e = refl
 
 pub over-is : (n : ℕ) → fitted n ≡ Over → 2 ^ 64 ≤ n
 unfolding fitted
-over-is n e = ltb-false n (2 ^ 64) (over-test (ltb n (2 ^ 64)) n e)
+over-is n e = ltb-false n (2 ^ 64) (over_test (ltb n (2 ^ 64)) n e)

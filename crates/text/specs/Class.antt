@@ -42,8 +42,8 @@ holds LettersDigits Other = false
 abbrev pub allowed : Set → ℕ → Bool
 allowed set b = holds set (class_of b)
 
-abbrev pub isDigit : ℕ → Bool
-isDigit b = allowed Digits b
+abbrev pub is_digit : ℕ → Bool
+is_digit b = allowed Digits b
 
-abbrev pub isLetter : ℕ → Bool
-isLetter b = allowed Letters b
+abbrev pub is_letter : ℕ → Bool
+is_letter b = allowed Letters b

@@ -8,12 +8,12 @@ decimal [] = 0
 decimal (d ∷ ds) = d * 10 ^ length ds + decimal ds
 
 -- the value of an ASCII digit
-abbrev pub digitOf : ℕ → ℕ
-digitOf b = b - 48
+abbrev pub digit_of : ℕ → ℕ
+digit_of b = b - 48
 
 -- the number that a text of ASCII digits writes
-unfoldable pub numberWritten : List ℕ → ℕ
-numberWritten t = decimal (map digitOf t)
+unfoldable pub number_written : List ℕ → ℕ
+number_written t = decimal (map digit_of t)
 
 -- SCOPE's limit of 64 bits: a number of 2^64 or more does not fit
 unfoldable pub fitted : ℕ → Number

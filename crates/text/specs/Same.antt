@@ -1,8 +1,8 @@
 -- The same text, byte for byte.
 use Rattle.std.specs.Prelude.{ℕ, Bool, true, false, ◌&&◌, List, [], ◌∷◌, eqb}
 
-unfoldable pub sameText : List ℕ → List ℕ → Bool
-sameText [] [] = true
-sameText [] (b ∷ u) = false
-sameText (a ∷ t) [] = false
-sameText (a ∷ t) (b ∷ u) = eqb a b && sameText t u
+unfoldable pub same_text : List ℕ → List ℕ → Bool
+same_text [] [] = true
+same_text [] (b ∷ u) = false
+same_text (a ∷ t) [] = false
+same_text (a ∷ t) (b ∷ u) = eqb a b && same_text t u

@@ -2,18 +2,18 @@
 ghost use Rattle.std.specs.Prelude.{◌≡◌, ◌+◌, ◌*◌, ◌^◌, ◌<◌, ◌≤◌, eqb, ltb, length, get_or, take, drop};
 ghost use Rattle.text.specs.Ranges.{within};
 ghost use Rattle.text.specs.Class.{class_of, holds, allowed};
-ghost use Rattle.text.specs.Decimal.{digitOf, numberWritten, fitted};
+ghost use Rattle.text.specs.Decimal.{digit_of, number_written, fitted};
 ghost use Rattle.text.specs.Field.{
-  firstPlace,
-  lengthIs,
+  first_place,
+  length_is,
   present,
-  wrongFrom,
-  firstWrong,
-  literalAt,
+  wrong_from,
+  first_wrong,
+  literal_at,
   in_range,
-  digitsIn,
-  twoDigits,
-  fourDigits,
+  digits_in,
+  two_digits,
+  four_digits,
 };
 
 use answer::{Reason, Step};
@@ -108,7 +108,7 @@ pub fn at(s: &[u8], i: usize) -> u8
 
 // The place of the first byte b, and the length where there is none.
 pub fn first_place(s: &[u8], b: u8) -> usize
-    ensures { result ≡ firstPlace b s.now }
+    ensures { result ≡ first_place b s.now }
 {
     let mut i = 0;
     while i < s.len() {
@@ -128,7 +128,7 @@ fn wide(x: u8) -> u64
 
 // The value of an ASCII digit; a byte below the digits counts as 0.
 fn digit(b: u8) -> u64
-    ensures value { result ≡ digitOf b }
+    ensures value { result ≡ digit_of b }
     ensures small { result < 256 }
 {
     if b < 48 { 0 } else { wide(b - 48) }
@@ -160,7 +160,7 @@ fn with_digit(n: u64, d: u64) -> Number
 
 // The number that a text of digits writes.
 pub fn number_of(t: &[u8]) -> Number
-    ensures { result ≡ fitted (numberWritten t.now) }
+    ensures { result ≡ fitted (number_written t.now) }
 {
     let mut n: u64 = 0;
     let mut i = 0;
@@ -179,7 +179,7 @@ pub fn number_of(t: &[u8]) -> Number
 }
 
 pub fn length_is(s: &[u8], n: usize, check: u16) -> Step
-    ensures { result ≡ lengthIs n s.now check }
+    ensures { result ≡ length_is n s.now check }
 {
     let count = s.len();
     if count == n {
@@ -208,7 +208,7 @@ pub fn present(at: usize, end: usize, check: u16) -> Step
 
 // The first of n bytes from a place on that the set does not allow.
 fn wrong_from(set: Set, s: &[u8], from: usize, n: usize, check: u16) -> Step
-    ensures { result ≡ wrongFrom set s.now from n check }
+    ensures { result ≡ wrong_from set s.now from n check }
 {
     let mut i = from;
     let mut left = n;
@@ -225,7 +225,7 @@ fn wrong_from(set: Set, s: &[u8], from: usize, n: usize, check: u16) -> Step
 
 // The first of the bytes from one place up to another that the set does not allow.
 pub fn first_wrong(set: Set, s: &[u8], from: usize, to: usize, check: u16) -> Step
-    ensures { result ≡ firstWrong set s.now from to check }
+    ensures { result ≡ first_wrong set s.now from to check }
 {
     if to <= from {
         return Step::Pass;
@@ -234,7 +234,7 @@ pub fn first_wrong(set: Set, s: &[u8], from: usize, to: usize, check: u16) -> St
 }
 
 pub fn literal(s: &[u8], i: usize, b: u8, check: u16) -> Step
-    ensures { result ≡ literalAt s.now i b check }
+    ensures { result ≡ literal_at s.now i b check }
 {
     if at(s, i) == b {
         Step::Pass
@@ -262,8 +262,8 @@ pub fn in_range(i: usize, low: u64, high: u64, n: u64, check: u32) -> Step
 
 // The number that n digits at a place write. It is asked for only where n digits stand there.
 fn value_at(s: &[u8], i: usize, n: usize) -> u64
-    requires { (i + n ≤ length s.now) × (numberWritten (take n (drop i s.now)) < 10000) }
-    ensures { result ≡ numberWritten (take n (drop i s.now)) }
+    requires { (i + n ≤ length s.now) × (number_written (take n (drop i s.now)) < 10000) }
+    ensures { result ≡ number_written (take n (drop i s.now)) }
 {
     let mut v: u64 = 0;
     let mut k = 0;
@@ -277,7 +277,7 @@ fn value_at(s: &[u8], i: usize, n: usize) -> u64
 // n digits at a place, and then the range of the number that they write. The range is a step of its own, whose check number is one more.
 fn digits_in(n: usize, s: &[u8], i: usize, low: u64, high: u64, check: u16) -> Step
     requires { (1 ≤ n) × (n ≤ 4) }
-    ensures { result ≡ digitsIn n s.now i low high check }
+    ensures { result ≡ digits_in n s.now i low high check }
 {
     match wrong_from(Set::Digits, s, i, n, check) {
         Step::Pass => in_range(i, low, high, value_at(s, i, n), check as u32 + 1),
@@ -288,7 +288,7 @@ fn digits_in(n: usize, s: &[u8], i: usize, low: u64, high: u64, check: u16) -> S
 // Two digits at a place, and then their range: what digits_in(2, ..) would say, without its loops, for the hours, minutes and days that most
 // fields with a date have. Where the byte at i is a digit, i is inside the field, so that i + 1 does not wrap.
 pub fn two_digits(s: &[u8], i: usize, low: u64, high: u64, check: u16) -> Step
-    ensures { result ≡ twoDigits s.now i low high check }
+    ensures { result ≡ two_digits s.now i low high check }
 {
     let a = at(s, i);
     if allows(Set::Digits, a) {
@@ -302,7 +302,7 @@ pub fn two_digits(s: &[u8], i: usize, low: u64, high: u64, check: u16) -> Step
 }
 
 pub fn four_digits(s: &[u8], i: usize, low: u64, high: u64, check: u16) -> Step
-    ensures { result ≡ fourDigits s.now i low high check }
+    ensures { result ≡ four_digits s.now i low high check }
 {
     digits_in(4, s, i, low, high, check)
 }

@@ -1,6 +1,6 @@
 // One turn of the program: a call on the bytes at hand, and the lines of its verdicts. No input and no output.
 ghost use Rattle.std.specs.Prelude.{◌≡◌};
-ghost use Rattle.turn.specs.Turn.{roomOf, turn_of, turningOf};
+ghost use Rattle.turn.specs.Turn.{room_of, turn_of, turning_of};
 
 use batch::Stop;
 
@@ -15,7 +15,7 @@ pub struct Turned {
 
 // The room for verdicts, so that all their lines fit the text.
 fn room(out: usize, text: usize) -> usize
-    ensures { result ≡ roomOf out text }
+    ensures { result ≡ room_of out text }
 {
     let most = text / report::LINE_MOST * verdict::VERDICT_SIZE;
     if most < out { most } else { out }
@@ -23,7 +23,7 @@ fn room(out: usize, text: usize) -> usize
 
 // One call on the bytes held, into as much of the output as has room for its lines in the text, and these lines.
 pub fn turn(held: &[u8], offset: u64, out: &mut [u8], text: &mut [u8], budget: u64) -> Turned
-    ensures { turningOf result out.new text.new ≡ turn_of held.now offset out.old text.old budget }
+    ensures { turning_of result out.new text.new ≡ turn_of held.now offset out.old text.old budget }
 {
     let n = room(out.len(), text.len());
     let r = batch::run(held, offset, &mut out[..n], budget);

@@ -3,7 +3,7 @@ use Rattle.std.specs.Prelude.{ℕ, ◌+◌, List, [], ◌∷◌, ◌++◌, drop}
 use Rattle.batch.specs.Walk.{call_of}
 use Rattle.batch_promises.specs.GoingOn.{Sum, sum_of, plus, Call}
 use Rattle.batch.specs.declared.Stop.TheVariants.{Finished}
-use Rattle.turn.specs.Turn.{callLines}
+use Rattle.turn.specs.Turn.{call_lines}
 
 -- bytes that were read in, or a call with its budget and output
 pub data Event : Type 0 where
@@ -27,7 +27,7 @@ taken b s = record { held = s.held ++ b; offset = s.offset; done = s.done; text 
 abbrev pub called : Call → Stream → Stream
 called c s =
     let r = call_of s.held s.offset c.out c.budget in
-    record { held = drop r.read s.held; offset = s.offset + r.read; done = plus s.done (sum_of r); text = s.text ++ callLines r }
+    record { held = drop r.read s.held; offset = s.offset + r.read; done = plus s.done (sum_of r); text = s.text ++ call_lines r }
 
 abbrev pub next : Event → Stream → Stream
 next (more b) s = taken b s

@@ -10,9 +10,9 @@ use lib.Bits.{bit_or, or_add_and, and_le_l, and_le_r, or_lt}
 use lib.Dec.{ltb, ltb→lt}
 use lib.ListN.{length, get_or, take, drop, take-append-drop, drop_of_length-le}
 use lib.Seq.{drop-cons, take-take, take-add}
-use Rattle.text.proofs.Ranges.{is_true, both-parts}
-use Rattle.utf8.specs.Chars.{Ch, ch, chars, charsPast, widths, validPrefix, ascii}
-use Rattle.utf8.proofs.Chars.{ascii-at, chars-char}
+use Rattle.text.proofs.Ranges.{is_true, both_parts}
+use Rattle.utf8.specs.Chars.{Ch, ch, chars, chars_past, widths, valid_prefix, ascii}
+use Rattle.utf8.proofs.Chars.{ascii-at, chars_char}
 
 -- two numbers are below 128 where the bits of either one are
 bits_below : (a b : ℕ) → ltb (bit_or a b) 128 ≡ (ltb a 128 && ltb b 128)
@@ -21,17 +21,17 @@ bits_below a b = go (ltb a 128) (ltb b 128) refl refl
     least : a ≤ bit_or a b
     least = omega (arith, or_add_and a b, and_le_r a b)
 
-    least-2 : b ≤ bit_or a b
-    least-2 = omega (arith, or_add_and a b, and_le_l a b)
+    least_2 : b ≤ bit_or a b
+    least_2 = omega (arith, or_add_and a b, and_le_l a b)
 
     go : (p q : Bool) → ltb a 128 ≡ p → ltb b 128 ≡ q → ltb (bit_or a b) 128 ≡ (p && q)
     go true true e f = lt-ltb (bit_or a b) 128 (or_lt 7 a b (ltb-true a 128 e) (ltb-true b 128 f))
-    go true false e f = le-ltb (bit_or a b) 128 (omega (arith, least-2, ltb-false b 128 f))
+    go true false e f = le-ltb (bit_or a b) 128 (omega (arith, least_2, ltb-false b 128 f))
     go false q e f = le-ltb (bit_or a b) 128 (omega (arith, least, ltb-false a 128 e))
 
-both-assoc : (a b c : Bool) → ((a && b) && c) ≡ (a && (b && c))
-both-assoc true b c = refl
-both-assoc false b c = refl
+both_assoc : (a b c : Bool) → ((a && b) && c) ≡ (a && (b && c))
+both_assoc true b c = refl
+both_assoc false b c = refl
 
 both_true : (a : Bool) → (a && true) ≡ a
 both_true true = refl
@@ -43,7 +43,7 @@ pub ascii_more : (s : List ℕ) (i h : ℕ) → i < length s
 unfolding ascii
 ascii_more s i h k =
     rw (drop-cons s i 0 k, add-one i, bits_below h (get_or s i 0))
-    (sym (both-assoc (ltb h 128) (ltb (get_or s i 0) 128) (ascii (drop (suc i) s))))
+    (sym (both_assoc (ltb h 128) (ltb (get_or s i 0) 128) (ascii (drop (suc i) s))))
 
 pub ascii-done : (s : List ℕ) (i h : ℕ) → length s ≤ i → (ltb h 128 && ascii (drop i s)) ≡ ltb h 128
 unfolding ascii
@@ -54,59 +54,59 @@ abbrev bits_at : List ℕ → ℕ → ℕ → ℕ → ℕ
 bits_at s i k zero = get_or s (i + k) 0
 bits_at s i k (suc n) = bit_or (get_or s (i + k) 0) (bits_at s i (suc k) n)
 
-bits-at : (s : List ℕ) (i k n : ℕ) → i + k + suc n ≤ length s → ltb (bits_at s i k n) 128 ≡ ascii (take (suc n) (drop (i + k) s))
+bits_at_lem : (s : List ℕ) (i k n : ℕ) → i + k + suc n ≤ length s → ltb (bits_at s i k n) 128 ≡ ascii (take (suc n) (drop (i + k) s))
 unfolding ascii
-bits-at s i k zero h = rw (drop-cons s (i + k) 0 (omega arith)) (sym (both_true (ltb (get_or s (i + k) 0) 128)))
-bits-at s i k (suc n) h =
+bits_at_lem s i k zero h = rw (drop-cons s (i + k) 0 (omega arith)) (sym (both_true (ltb (get_or s (i + k) 0) 128)))
+bits_at_lem s i k (suc n) h =
     let e : i + suc k ≡ suc (i + k) = omega arith in
     bits_below (get_or s (i + k) 0) (bits_at s i (suc k) n)
-    ∙ rw (bits-at s i (suc k) n (omega arith), drop-cons s (i + k) 0 (omega arith), e)
+    ∙ rw (bits_at_lem s i (suc k) n (omega arith), drop-cons s (i + k) 0 (omega arith), e)
 
-pub ascii-eight : (s : List ℕ) (i : ℕ) → i + 8 ≤ length s → ltb (bit_or (get_or s i 0) (bits_at s i 1 6)) 128 ≡ ascii (take 8 (drop i s))
+pub ascii_eight : (s : List ℕ) (i : ℕ) → i + 8 ≤ length s → ltb (bit_or (get_or s i 0) (bits_at s i 1 6)) 128 ≡ ascii (take 8 (drop i s))
 unfolding ascii
-ascii-eight s i h =
-    bits_below (get_or s i 0) (bits_at s i 1 6) ∙ rw (bits-at s i 1 6 (omega arith), drop-cons s i 0 (omega arith), add-one i)
+ascii_eight s i h =
+    bits_below (get_or s i 0) (bits_at s i 1 6) ∙ rw (bits_at_lem s i 1 6 (omega arith), drop-cons s i 0 (omega arith), add-one i)
 
 -- a text in two parts is ASCII where both are
 ascii_append : (s t : List ℕ) → ascii (s ++ t) ≡ (ascii s && ascii t)
 unfolding ascii
 ascii_append [] t = refl
-ascii_append (a ∷ s) t = rw (ascii_append s t) (sym (both-assoc (ltb a 128) (ascii s) (ascii t)))
+ascii_append (a ∷ s) t = rw (ascii_append s t) (sym (both_assoc (ltb a 128) (ascii s) (ascii t)))
 
-ascii-cut : (s : List ℕ) (i : ℕ) → ascii s ≡ (ascii (take i s) && ascii (drop i s))
-ascii-cut s i = ap ascii (sym (take-append-drop i s)) ∙ ascii_append (take i s) (drop i s)
+ascii_cut : (s : List ℕ) (i : ℕ) → ascii s ≡ (ascii (take i s) && ascii (drop i s))
+ascii_cut s i = ap ascii (sym (take-append-drop i s)) ∙ ascii_append (take i s) (drop i s)
 
 -- where the bytes before a place are ASCII: so are those of a part more, or the text is not; and a last part that begins before it decides
 pub ascii-part : (s : List ℕ) (i n : ℕ) → ascii (take i s) ≡ true → ascii (take (i + n) s) ≡ ascii (take n (drop i s))
 ascii-part s i n e = ap ascii (take-add i n s) ∙ ascii_append (take i s) (take n (drop i s)) ∙ rw e
 
-pub ascii-not : (s : List ℕ) (i : ℕ) → ascii (take i s) ≡ false → ascii s ≡ false
-ascii-not s i e = ascii-cut s i ∙ rw e
+pub ascii_not : (s : List ℕ) (i : ℕ) → ascii (take i s) ≡ false → ascii s ≡ false
+ascii_not s i e = ascii_cut s i ∙ rw e
 
 pub ascii-last : (s : List ℕ) (k i : ℕ) → k ≤ i → ascii (take i s) ≡ true → ascii s ≡ ascii (drop k s)
 ascii-last s k i h e =
-    let p = both-parts (ascii (take k (take i s))) (ascii (drop k (take i s))) (rw (← ascii-cut (take i s) k, e) tt) in
-    ascii-cut s k ∙ rw (← take-take k i s h, is_true (ascii (take k (take i s))) p.0)
+    let p = both_parts (ascii (take k (take i s))) (ascii (drop k (take i s))) (rw (← ascii_cut (take i s) k, e) tt) in
+    ascii_cut s k ∙ rw (← take-take k i s h, is_true (ascii (take k (take i s))) p.0)
 
 -- a text is ASCII exactly where every byte is below 128
-pub ascii-below : (s : List ℕ) → ascii s ≡ true → (i : ℕ) → i < length s → get_or s i 0 < 128
+pub ascii_below : (s : List ℕ) → ascii s ≡ true → (i : ℕ) → i < length s → get_or s i 0 < 128
 unfolding ascii
-ascii-below [] e i h = absurd (omega arith)
-ascii-below (a ∷ s) e zero h = ltb→lt a 128 (both-parts (ltb a 128) (ascii s) (rw e tt)).0
-ascii-below (a ∷ s) e (suc i) h = ascii-below s (is_true (ascii s) (both-parts (ltb a 128) (ascii s) (rw e tt)).1) i (omega arith)
+ascii_below [] e i h = absurd (omega arith)
+ascii_below (a ∷ s) e zero h = ltb→lt a 128 (both_parts (ltb a 128) (ascii s) (rw e tt)).0
+ascii_below (a ∷ s) e (suc i) h = ascii_below s (is_true (ascii s) (both_parts (ltb a 128) (ascii s) (rw e tt)).1) i (omega arith)
 
-pub below-ascii : (s : List ℕ) → ((i : ℕ) → i < length s → get_or s i 0 < 128) → ascii s ≡ true
+pub below_ascii : (s : List ℕ) → ((i : ℕ) → i < length s → get_or s i 0 < 128) → ascii s ≡ true
 unfolding ascii
-below-ascii [] f = refl
-below-ascii (a ∷ s) f = rw (lt-ltb a 128 (f zero (omega arith))) (below-ascii s (λ i h. f (suc i) (omega arith)))
+below_ascii [] f = refl
+below_ascii (a ∷ s) f = rw (lt-ltb a 128 (f zero (omega arith))) (below_ascii s (λ i h. f (suc i) (omega arith)))
 
 -- the characters of an ASCII text are its bytes one by one
 pub ascii-chars : (s : List ℕ) → ascii s ≡ true → chars s ≡ map (λ b. ch b 1) s
-unfolding ascii charsPast
+unfolding ascii chars_past
 ascii-chars [] e = refl
 ascii-chars (a ∷ s) e =
-    let p = both-parts (ltb a 128) (ascii s) (rw e tt) in
-    chars-char (a ∷ s) a 1 (sym (ascii-at (a ∷ s) 0 a a (omega arith) refl (ltb→lt a 128 p.0) refl))
+    let p = both_parts (ltb a 128) (ascii s) (rw e tt) in
+    chars_char (a ∷ s) a 1 (sym (ascii-at (a ∷ s) 0 a a (omega arith) refl (ltb→lt a 128 p.0) refl))
     ∙ ap (λ (l : List Ch). ch a 1 ∷ l) (ascii-chars s (is_true (ascii s) p.1))
 
 singles : (s : List ℕ) → widths (map (λ b. ch b 1) s) ≡ length s
@@ -115,6 +115,6 @@ singles [] = refl
 singles (a ∷ s) = rw (singles s) (omega arith)
 
 -- and it is its own longest well-formed prefix
-pub ascii-prefix : (s : List ℕ) → ascii s ≡ true → validPrefix s ≡ length s
-unfolding validPrefix
-ascii-prefix s e = rw (ascii-chars s e) (singles s)
+pub ascii_prefix : (s : List ℕ) → ascii s ≡ true → valid_prefix s ≡ length s
+unfolding valid_prefix
+ascii_prefix s e = rw (ascii-chars s e) (singles s)

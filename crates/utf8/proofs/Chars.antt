@@ -10,20 +10,20 @@ use lib.Dec.{T, leb, ltb, eqb, leb→le, ltb→lt}
 use lib.ListN.{length, get_or, drop, length-drop, drop_of_length-le}
 use lib.Seq.{drop-cons, get_or-drop, drop-nil, drop-drop}
 use Rattle.text.specs.Ranges.{within}
-use Rattle.text.proofs.Ranges.{even, on, evenly, within-ends, both-parts, either-parts, find-all}
-use Rattle.utf8.specs.Rfc3629.{leads, noLead, leadOf, needed, wellFormed, scalarOf, charOf, front}
-use Rattle.utf8.specs.Chars.{ch, charsPast, chars}
+use Rattle.text.proofs.Ranges.{even, on, evenly, within-ends, both_parts, either_parts, find-all}
+use Rattle.utf8.specs.Rfc3629.{leads, no_lead, lead_of, needed, well_formed, scalar_of, char_of, front}
+use Rattle.utf8.specs.Chars.{ch, chars_past, chars}
 use Rattle.utf8.specs.declared.Lead.{Lead}
 use Rattle.utf8.specs.declared.Decoded.TheVariants.{Char, Bad}
 
 -- what is said of a first byte in a range that no row splits
-pub led : (l h a : ℕ) → l ≤ a → a ≤ h → T (even [] l h leads) → leadOf a ≡ on noLead l h leads
-unfolding leadOf
-led l h a from to t = evenly [] l h a (λ e. e) from to noLead leads t
+pub led : (l h a : ℕ) → l ≤ a → a ≤ h → T (even [] l h leads) → lead_of a ≡ on no_lead l h leads
+unfolding lead_of
+led l h a from to t = evenly [] l h a (λ e. e) from to no_lead leads t
 
 -- the character at a place, by the bytes there
 front_at : (s : List ℕ) (at : ℕ) → at < length s
-    → front (drop at s) ≡ charOf (get_or s at 0) (get_or s (at + 1) 0) (get_or s (at + 2) 0) (get_or s (at + 3) 0)
+    → front (drop at s) ≡ char_of (get_or s at 0) (get_or s (at + 1) 0) (get_or s (at + 2) 0) (get_or s (at + 3) 0)
 unfolding front
 front_at s at h =
     let one : suc at + 0 ≡ at + 1 = omega arith in
@@ -34,18 +34,18 @@ front_at s at h =
 -- what was read at a place decides, where it was read as `front` reads it
 module _ (s : List ℕ) (at a b c d : ℕ) (l : Lead) (t : Bool) (v : ℕ) (h : at < length s)
     (ea : a ≡ get_or s at 0) (eb : b ≡ get_or s (at + 1) 0) (ec : c ≡ get_or s (at + 2) 0) (ed : d ≡ get_or s (at + 3) 0)
-    (el : l ≡ leadOf a) (et : t ≡ wellFormed l b c d) where
-  pub decodes : t ≡ true → v ≡ scalarOf l.width a b c d → Char v l.width ≡ front (drop at s)
-  unfolding charOf
+    (el : l ≡ lead_of a) (et : t ≡ well_formed l b c d) where
+  pub decodes : t ≡ true → v ≡ scalar_of l.width a b c d → Char v l.width ≡ front (drop at s)
+  unfolding char_of
   decodes e ev = rw (front_at s at h, ← ea, ← eb, ← ec, ← ed, ← el, ← et, e, ev)
 
-  pub decodes-not : t ≡ false → Bad ≡ front (drop at s)
-  unfolding charOf
-  decodes-not e = rw (front_at s at h, ← ea, ← eb, ← ec, ← ed, ← el, ← et, e)
+  pub decodes_not : t ≡ false → Bad ≡ front (drop at s)
+  unfolding char_of
+  decodes_not e = rw (front_at s at h, ← ea, ← eb, ← ec, ← ed, ← el, ← et, e)
 
 -- a byte below 128 is a character
 pub ascii-at : (s : List ℕ) (at a v : ℕ) → at < length s → a ≡ get_or s at 0 → a < 128 → v ≡ a → Char v 1 ≡ front (drop at s)
-unfolding charOf wellFormed scalarOf needed
+unfolding char_of well_formed scalar_of needed
 ascii-at s at a v h e small ev = rw (front_at s at h, ← e, led 0x00 0x7F a (omega arith) (omega arith) tt, ev)
 
 -- a character that was found: its bytes are well formed, and its width is the row's
@@ -62,71 +62,71 @@ within_text (a ∷ s) (suc i) h = let k = within_text s i h in omega arith
 sound : Lead → Bool
 sound l = leb l.width 4 && (ltb l.width 2 || leb 1 l.low)
 
-bounds : (a : ℕ) → T (sound (leadOf a))
-unfolding leadOf sound
-bounds a = find-all sound noLead leads a tt tt
+bounds : (a : ℕ) → T (sound (lead_of a))
+unfolding lead_of sound
+bounds a = find-all sound no_lead leads a tt tt
 
-needs-byte : (s : List ℕ) (k w lo hi i : ℕ) → 1 ≤ lo → T (needed k w lo hi (get_or s i 0)) → (w < k) ⊎ (i < length s)
+needs_byte : (s : List ℕ) (k w lo hi i : ℕ) → 1 ≤ lo → T (needed k w lo hi (get_or s i 0)) → (w < k) ⊎ (i < length s)
 unfolding needed
-needs-byte s k w lo hi i h t =
+needs_byte s k w lo hi i h t =
     ⊎_elim (λ u. inl (ltb→lt w k u)) (λ u. inr (within_text s i (let e = within-ends lo hi (get_or s i 0) u in omega arith)))
-    (either-parts (ltb w k) (within lo hi (get_or s i 0)) t)
+    (either_parts (ltb w k) (within lo hi (get_or s i 0)) t)
 
 asked : (t u : Bool) → T (cond t false u) → (t ≡ false) × T u
 asked true u t = absurd t
 asked false u t = (refl, t)
 
 -- the bytes that the width asks for are there
-wide : (s : List ℕ) (l : Lead) → T (sound l) → T (wellFormed l (get_or s 0 0) (get_or s 1 0) (get_or s 2 0)) → (1 ≤ l.width) × (l.width ≤ suc (length s))
-unfolding wellFormed sound
+wide : (s : List ℕ) (l : Lead) → T (sound l) → T (well_formed l (get_or s 0 0) (get_or s 1 0) (get_or s 2 0)) → (1 ≤ l.width) × (l.width ≤ suc (length s))
+unfolding well_formed sound
 wide s l b t =
     let w = l.width in
     let second = needed 2 w l.low l.high (get_or s 0 0) in
     let third = needed 3 w 0x80 0xBF (get_or s 1 0) in
     let fourth = needed 4 w 0x80 0xBF (get_or s 2 0) in
     let p = asked (eqb w 0) (second && (third && fourth)) t in
-    let q = both-parts second (third && fourth) p.1 in
-    let r = both-parts third fourth q.1 in
-    let m = both-parts (leb w 4) (ltb w 2 || leb 1 l.low) b in
+    let q = both_parts second (third && fourth) p.1 in
+    let r = both_parts third fourth q.1 in
+    let m = both_parts (leb w 4) (ltb w 2 || leb 1 l.low) b in
     let some : 1 ≤ w = omega (arith, eqb-false w 0 p.0) in
     let four : w ≤ 4 = leb→le w 4 m.0 in (
       some,
       ⊎_elim (λ (k₄ : w < 4). ⊎_elim (λ (k₃ : w < 3). ⊎_elim (λ (k₂ : w < 2). omega arith) (λ (h : 1 ≤ l.low).
-          ⊎_elim (λ (k₂ : w < 2). omega arith) (λ (k : 0 < length s). omega arith) (needs-byte s 2 w l.low l.high 0 h q.0))
-          (⊎_elim (λ u. inl (ltb→lt w 2 u)) (λ u. inr (leb→le 1 l.low u)) (either-parts (ltb w 2) (leb 1 l.low) m.1)))
-          (λ (k : 1 < length s). omega arith) (needs-byte s 3 w 0x80 0xBF 1 (omega arith) r.0))
-          (λ (k : 2 < length s). omega arith) (needs-byte s 4 w 0x80 0xBF 2 (omega arith) r.1),
+          ⊎_elim (λ (k₂ : w < 2). omega arith) (λ (k : 0 < length s). omega arith) (needs_byte s 2 w l.low l.high 0 h q.0))
+          (⊎_elim (λ u. inl (ltb→lt w 2 u)) (λ u. inr (leb→le 1 l.low u)) (either_parts (ltb w 2) (leb 1 l.low) m.1)))
+          (λ (k : 1 < length s). omega arith) (needs_byte s 3 w 0x80 0xBF 1 (omega arith) r.0))
+          (λ (k : 2 < length s). omega arith) (needs_byte s 4 w 0x80 0xBF 2 (omega arith) r.1),
     )
 
 -- a character has at least one byte, and all of its bytes are there
 pub front-width : (s : List ℕ) (c w : ℕ) → front s ≡ Char c w → (1 ≤ w) × (w ≤ length s)
-unfolding front charOf
+unfolding front char_of
 front-width [] c w e = let z : ◌≡◌ {A = ℕ} 0 1 = cc in absurd (omega arith)
 front-width (a ∷ s) c w e =
-    let l = leadOf a in
-    let f = found (wellFormed l (get_or s 0 0) (get_or s 1 0) (get_or s 2 0)) (scalarOf l.width a (get_or s 0 0) (get_or s 1 0) (get_or s 2 0)) l.width c w e in
+    let l = lead_of a in
+    let f = found (well_formed l (get_or s 0 0) (get_or s 1 0) (get_or s 2 0)) (scalar_of l.width a (get_or s 0 0) (get_or s 1 0) (get_or s 2 0)) l.width c w e in
     rw (← f.1) (wide s l (bounds a) f.0)
 
-past : (k : ℕ) (s : List ℕ) → charsPast k s ≡ chars (drop k s)
-unfolding charsPast
+past : (k : ℕ) (s : List ℕ) → chars_past k s ≡ chars (drop k s)
+unfolding chars_past
 past k [] = rw (drop-nil k)
 past zero (a ∷ s) = refl
 past (suc k) (a ∷ s) = past k s
 
 -- the characters of a text: the first, and those past it
-pub chars-char : (s : List ℕ) (c w : ℕ) → front s ≡ Char c w → chars s ≡ ch c w ∷ chars (drop w s)
-unfolding charsPast front
-chars-char [] c w e = let z : ◌≡◌ {A = ℕ} 0 1 = cc in absurd (omega arith)
-chars-char (a ∷ s) c zero e = let p = front-width (a ∷ s) c zero e in absurd (omega arith)
-chars-char (a ∷ s) c (suc k) e = rw (e, past k s)
+pub chars_char : (s : List ℕ) (c w : ℕ) → front s ≡ Char c w → chars s ≡ ch c w ∷ chars (drop w s)
+unfolding chars_past front
+chars_char [] c w e = let z : ◌≡◌ {A = ℕ} 0 1 = cc in absurd (omega arith)
+chars_char (a ∷ s) c zero e = let p = front-width (a ∷ s) c zero e in absurd (omega arith)
+chars_char (a ∷ s) c (suc k) e = rw (e, past k s)
 
-pub chars-bad : (s : List ℕ) → front s ≡ Bad → chars s ≡ []
-unfolding charsPast
-chars-bad [] e = refl
-chars-bad (a ∷ s) e = rw e
+pub chars_bad : (s : List ℕ) → front s ≡ Bad → chars s ≡ []
+unfolding chars_past
+chars_bad [] e = refl
+chars_bad (a ∷ s) e = rw e
 
 pub chars-end : (s : List ℕ) (at : ℕ) → length s ≤ at → chars (drop at s) ≡ []
-unfolding charsPast
+unfolding chars_past
 chars-end s at h = rw (drop_of_length-le s h)
 
 -- a character of scalar value c and width w stands at a place of a text
@@ -141,9 +141,9 @@ stands s at c w h e =
     record {
       some = p.0;
       inside = omega (arith, length-drop at s);
-      first = chars-char (drop at s) c w e ∙ ap (λ (l : List ℕ). ch c w ∷ chars l) (drop-drop w at s);
+      first = chars_char (drop at s) c w e ∙ ap (λ (l : List ℕ). ch c w ∷ chars l) (drop-drop w at s);
     }
 
 -- a byte below 128 stands for itself
-pub ascii-stands : (s : List ℕ) (at : ℕ) → at < length s → get_or s at 0 < 128 → Stands s at (get_or s at 0) 1
-ascii-stands s at h small = stands s at (get_or s at 0) 1 (omega arith) (sym (ascii-at s at (get_or s at 0) (get_or s at 0) h refl small refl))
+pub ascii_stands : (s : List ℕ) (at : ℕ) → at < length s → get_or s at 0 < 128 → Stands s at (get_or s at 0) 1
+ascii_stands s at h small = stands s at (get_or s at 0) 1 (omega arith) (sym (ascii-at s at (get_or s at 0) (get_or s at 0) h refl small refl))

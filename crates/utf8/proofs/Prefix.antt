@@ -9,14 +9,14 @@ use lib.Dec.{ltb, eqb}
 use lib.ListN.{length, get_or, take, drop, length-take, length-drop}
 use lib.Seq.{get_or-take, take-nil, take-add, drop_at, length-take-le}
 use Rattle.text.specs.Ranges.{within}
-use Rattle.utf8.specs.Rfc3629.{leadOf, needed, wellFormed, scalarOf, charOf, front}
-use Rattle.utf8.specs.Chars.{widths, validPrefix}
+use Rattle.utf8.specs.Rfc3629.{lead_of, needed, well_formed, scalar_of, char_of, front}
+use Rattle.utf8.specs.Chars.{widths, valid_prefix}
 use Rattle.utf8.specs.Octets.{Octets}
 use Rattle.utf8.specs.Octets.Octets.{none, more}
 use Rattle.utf8.specs.declared.Lead.{Lead}
 use Rattle.utf8.specs.declared.Decoded.{Decoded}
 use Rattle.utf8.specs.declared.Decoded.TheVariants.{Char, Bad}
-use Rattle.utf8.proofs.Chars.{front-width, found, chars-char, chars-bad}
+use Rattle.utf8.proofs.Chars.{front-width, found, chars_char, chars_bad}
 
 -- only the bytes that the width asks for count
 needed-same : (k w lo hi x y : ℕ) → (k ≤ w → x ≡ y) → needed k w lo hi x ≡ needed k w lo hi y
@@ -27,15 +27,15 @@ needed-same k w lo hi x y h = go (ltb w k) refl
     go true e = refl
     go false e = rw (h (ltb-false w k e))
 
-wellFormed-same : (l : Lead) (b c d b' c' d' : ℕ) → (2 ≤ l.width → b ≡ b') → (3 ≤ l.width → c ≡ c') → (4 ≤ l.width → d ≡ d')
-    → wellFormed l b c d ≡ wellFormed l b' c' d'
-unfolding wellFormed
-wellFormed-same l b c d b' c' d' p q r =
+well_formed-same : (l : Lead) (b c d b' c' d' : ℕ) → (2 ≤ l.width → b ≡ b') → (3 ≤ l.width → c ≡ c') → (4 ≤ l.width → d ≡ d')
+    → well_formed l b c d ≡ well_formed l b' c' d'
+unfolding well_formed
+well_formed-same l b c d b' c' d' p q r =
     rw (needed-same 2 l.width l.low l.high b b' p, needed-same 3 l.width 0x80 0xBF c c' q, needed-same 4 l.width 0x80 0xBF d d' r)
 
 scalar-same : (w a b c d b' c' d' : ℕ) → 1 ≤ w → (2 ≤ w → b ≡ b') → (3 ≤ w → c ≡ c') → (4 ≤ w → d ≡ d')
-    → scalarOf w a b c d ≡ scalarOf w a b' c' d'
-unfolding scalarOf
+    → scalar_of w a b c d ≡ scalar_of w a b' c' d'
+unfolding scalar_of
 scalar-same w a b c d b' c' d' some p q r = go (eqb w 1) (eqb w 2) (eqb w 3) refl refl refl
   where
     go : (x y z : Bool) → eqb w 1 ≡ x → eqb w 2 ≡ y → eqb w 3 ≡ z
@@ -49,16 +49,16 @@ scalar-same w a b c d b' c' d' some p q r = go (eqb w 1) (eqb w 2) (eqb w 3) ref
         rw (p (omega arith), q (omega arith), r four)
 
 -- a character stays where bytes past it change
-char-same : (a b c d b' c' d' x w : ℕ) → charOf a b c d ≡ Char x w → 1 ≤ w → (2 ≤ w → b ≡ b') → (3 ≤ w → c ≡ c') → (4 ≤ w → d ≡ d')
-    → charOf a b' c' d' ≡ Char x w
-unfolding charOf
-char-same a b c d b' c' d' x w e some p q r =
-    let v = (leadOf a).width in
-    let same : v ≡ w = (found (wellFormed (leadOf a) b c d) (scalarOf v a b c d) v x w e).1 in
+char_same : (a b c d b' c' d' x w : ℕ) → char_of a b c d ≡ Char x w → 1 ≤ w → (2 ≤ w → b ≡ b') → (3 ≤ w → c ≡ c') → (4 ≤ w → d ≡ d')
+    → char_of a b' c' d' ≡ Char x w
+unfolding char_of
+char_same a b c d b' c' d' x w e some p q r =
+    let v = (lead_of a).width in
+    let same : v ≡ w = (found (well_formed (lead_of a) b c d) (scalar_of v a b c d) v x w e).1 in
     let p' : 2 ≤ v → b ≡ b' = λ h. p (omega arith) in
     let q' : 3 ≤ v → c ≡ c' = λ h. q (omega arith) in
     let r' : 4 ≤ v → d ≡ d' = λ h. r (omega arith) in
-    rw (← wellFormed-same (leadOf a) b c d b' c' d' p' q' r', ← scalar-same v a b c d b' c' d' (omega arith) p' q' r') e
+    rw (← well_formed-same (lead_of a) b c d b' c' d' p' q' r', ← scalar-same v a b c d b' c' d' (omega arith) p' q' r') e
 
 -- the first character of a text is that of each prefix that has its bytes, and the other way round
 front-take : (n : ℕ) (s : List ℕ) (c w : ℕ) → w ≤ n → front s ≡ Char c w → front (take n s) ≡ Char c w
@@ -67,7 +67,7 @@ front-take n [] c w h e = let z : ◌≡◌ {A = ℕ} 0 1 = cc in absurd (omega 
 front-take zero (a ∷ s) c w h e = let p = front-width (a ∷ s) c w e in absurd (omega arith)
 front-take (suc n) (a ∷ s) c w h e =
     let p = front-width (a ∷ s) c w e in
-    char-same a (get_or s 0 0) (get_or s 1 0) (get_or s 2 0) (get_or (take n s) 0 0) (get_or (take n s) 1 0) (get_or (take n s) 2 0) c w e p.0
+    char_same a (get_or s 0 0) (get_or s 1 0) (get_or s 2 0) (get_or (take n s) 0 0) (get_or (take n s) 1 0) (get_or (take n s) 2 0) c w e p.0
     (λ k. sym (get_or-take n s 0 0 (omega arith))) (λ k. sym (get_or-take n s 1 0 (omega arith))) (λ k. sym (get_or-take n s 2 0 (omega arith)))
 
 front-whole : (n : ℕ) (s : List ℕ) (c w : ℕ) → front (take n s) ≡ Char c w → front s ≡ Char c w
@@ -77,39 +77,39 @@ front-whole zero (a ∷ s) c w e = let z : ◌≡◌ {A = ℕ} 0 1 = cc in absur
 front-whole (suc n) (a ∷ s) c w e =
     let p = front-width (a ∷ take n s) c w e in
     let m : w ≤ suc n = omega (arith, p.1, length-take n s) in
-    char-same a (get_or (take n s) 0 0) (get_or (take n s) 1 0) (get_or (take n s) 2 0) (get_or s 0 0) (get_or s 1 0) (get_or s 2 0) c w e p.0
+    char_same a (get_or (take n s) 0 0) (get_or (take n s) 1 0) (get_or (take n s) 2 0) (get_or s 0 0) (get_or s 1 0) (get_or s 2 0) c w e p.0
     (λ k. get_or-take n s 0 0 (omega arith)) (λ k. get_or-take n s 1 0 (omega arith)) (λ k. get_or-take n s 2 0 (omega arith))
 
 drop-take : (w v : ℕ) (s : List ℕ) → w ≤ length s → drop w (take (w + v) s) ≡ take v (drop w s)
 drop-take w v s h = rw (take-add w v s) (drop_at (take w s) (take v (drop w s)) w (length-take-le w s h))
 
-pub prefix-char : (s : List ℕ) (c w : ℕ) → front s ≡ Char c w → validPrefix s ≡ w + validPrefix (drop w s)
-unfolding validPrefix widths
-prefix-char s c w e = rw (chars-char s c w e)
+pub prefix_char : (s : List ℕ) (c w : ℕ) → front s ≡ Char c w → valid_prefix s ≡ w + valid_prefix (drop w s)
+unfolding valid_prefix widths
+prefix_char s c w e = rw (chars_char s c w e)
 
-pub prefix-bad : (s : List ℕ) → front s ≡ Bad → validPrefix s ≡ 0
-unfolding validPrefix widths
-prefix-bad s e = rw (chars-bad s e)
+pub prefix_bad : (s : List ℕ) → front s ≡ Bad → valid_prefix s ≡ 0
+unfolding valid_prefix widths
+prefix_bad s e = rw (chars_bad s e)
 
 -- the prefix is within the text, and is made of characters
 abbrev pub Inside : List ℕ → Type 0
-Inside s = (validPrefix s ≤ length s) × Octets (take (validPrefix s) s)
+Inside s = (valid_prefix s ≤ length s) × Octets (take (valid_prefix s) s)
 
-inside-by : (s : List ℕ) → ((c w : ℕ) → front s ≡ Char c w → Inside (drop w s)) → (d : Decoded) → front s ≡ d → Inside s
-inside-by s ih Bad e = rw (prefix-bad s e) (omega arith, none)
-inside-by s ih (Char c w) e =
+inside_by : (s : List ℕ) → ((c w : ℕ) → front s ≡ Char c w → Inside (drop w s)) → (d : Decoded) → front s ≡ d → Inside s
+inside_by s ih Bad e = rw (prefix_bad s e) (omega arith, none)
+inside_by s ih (Char c w) e =
     let p = front-width s c w e in
-    let v = validPrefix (drop w s) in
+    let v = valid_prefix (drop w s) in
     let r = ih c w e in
-    rw (prefix-char s c w e)
+    rw (prefix_char s c w e)
     (omega (arith, r.0, length-drop w s), more (take (w + v) s) c w (front-take (w + v) s c w (omega arith) e) (rw (drop-take w v s p.1) r.1))
 
 pub inside : (n : ℕ) (s : List ℕ) → length s ≤ n → Inside s
-inside zero s h = inside-by s (λ c w e. absurd (let p = front-width s c w e in omega arith)) (front s) refl
-inside (suc n) s h = inside-by s (λ c w e. inside n (drop w s) (let p = front-width s c w e in omega (arith, length-drop w s))) (front s) refl
+inside zero s h = inside_by s (λ c w e. absurd (let p = front-width s c w e in omega arith)) (front s) refl
+inside (suc n) s h = inside_by s (λ c w e. inside n (drop w s) (let p = front-width s c w e in omega (arith, length-drop w s))) (front s) refl
 
 -- a prefix that is made of characters is within it
-pub most : {t : List ℕ} → Octets t → (s : List ℕ) (m : ℕ) → t ≡ take m s → m ≤ length s → m ≤ validPrefix s
+pub most : {t : List ℕ} → Octets t → (s : List ℕ) (m : ℕ) → t ≡ take m s → m ≤ length s → m ≤ valid_prefix s
 most none s m e h = omega (arith, ap length e, length-take m s)
 most (more t c w f o) s m e h =
     let p = front-width t c w f in
@@ -118,5 +118,5 @@ most (more t c w f o) s m e h =
     let whole : front s ≡ Char c w = front-whole m s c w (rw e at f) in
     let split : m ≡ w + k = omega arith in
     let cut : drop w t ≡ take k (drop w s) = ap (drop w) (e ∙ ap (λ (n : ℕ). take n s) split) ∙ drop-take w k s (omega arith) in
-    let r : k ≤ validPrefix (drop w s) = most o (drop w s) k cut (omega (arith, length-drop w s)) in
-    omega (arith, prefix-char s c w whole)
+    let r : k ≤ valid_prefix (drop w s) = most o (drop w s) k cut (omega (arith, length-drop w s)) in
+    omega (arith, prefix_char s c w whole)

@@ -3,9 +3,9 @@ use Prim.Native.Nat.{ℕ}
 use mathlib.Core.Path.{◌≡◌, refl}
 use mathlib.Core.Bool.{Bool, true, false}
 use mathlib.Core.List.{List, [], ◌∷◌, map}
-use Rattle.utf8.specs.Rfc3629.{leadOf, needed, wellFormed, scalarOf, charOf, front}
-use Rattle.utf8.specs.Chars.{Ch, ch, charsPast, chars, widths, validPrefix, ascii}
-use Rattle.utf8.specs.Space.{whiteSpace}
+use Rattle.utf8.specs.Rfc3629.{lead_of, needed, well_formed, scalar_of, char_of, front}
+use Rattle.utf8.specs.Chars.{Ch, ch, chars_past, chars, widths, valid_prefix, ascii}
+use Rattle.utf8.specs.Space.{white_space}
 
 -- a text's characters, each with its width, and the length of its longest well-formed prefix
 record Read : Type 0 where
@@ -13,7 +13,7 @@ record Read : Type 0 where
   prefix : ℕ
 
 abbrev read : List ℕ → Read
-read s = record { is = chars s; prefix = validPrefix s }
+read s = record { is = chars s; prefix = valid_prefix s }
 
 abbrev says : List Ch → ℕ → Read
 says cs n = record { is = cs; prefix = n }
@@ -65,7 +65,7 @@ answers =
 pub worked : record {
   texts = map read texts;
   plain = map ascii plain;
-  points = map whiteSpace points;
+  points = map white_space points;
 } ≡ answers
-unfolding leadOf needed wellFormed scalarOf charOf front charsPast widths validPrefix ascii whiteSpace
+unfolding lead_of needed well_formed scalar_of char_of front chars_past widths valid_prefix ascii white_space
 worked = refl

@@ -18,13 +18,13 @@ then Bad rest = []
 then (Char c w) rest = ch c w ∷ rest (pred w)
 
 -- the characters of a text past its first k bytes
-unfoldable pub charsPast : ℕ → List ℕ → List Ch
-charsPast k [] = []
-charsPast zero (a ∷ s) = then (front (a ∷ s)) (λ k. charsPast k s)
-charsPast (suc k) (a ∷ s) = charsPast k s
+unfoldable pub chars_past : ℕ → List ℕ → List Ch
+chars_past k [] = []
+chars_past zero (a ∷ s) = then (front (a ∷ s)) (λ k. chars_past k s)
+chars_past (suc k) (a ∷ s) = chars_past k s
 
 abbrev pub chars : List ℕ → List Ch
-chars s = charsPast 0 s
+chars s = chars_past 0 s
 
 -- how many bytes they take
 unfoldable pub widths : List Ch → ℕ
@@ -32,8 +32,8 @@ widths [] = 0
 widths (c ∷ cs) = c.width + widths cs
 
 -- the length of the longest well-formed prefix
-unfoldable pub validPrefix : List ℕ → ℕ
-validPrefix s = widths (chars s)
+unfoldable pub valid_prefix : List ℕ → ℕ
+valid_prefix s = widths (chars s)
 
 -- the US-ASCII texts of section 3: every byte is below 128
 unfoldable pub ascii : List ℕ → Bool

@@ -24,35 +24,35 @@ leads =
     []
 
 -- no character starts with any other byte
-abbrev pub noLead : Lead
-noLead = lead 0 0 0
+abbrev pub no_lead : Lead
+no_lead = lead 0 0 0
 
-unfoldable pub leadOf : ℕ → Lead
-leadOf = find noLead leads
+unfoldable pub lead_of : ℕ → Lead
+lead_of = find no_lead leads
 
 -- where a character of w bytes has a k-th byte, it is from lo to hi
 unfoldable pub needed : ℕ → ℕ → ℕ → ℕ → ℕ → Bool
 needed k w lo hi x = ltb w k || within lo hi x
 
 -- the bytes after the first: the second is in the row's range, and the others are UTF8-tail
-unfoldable pub wellFormed : Lead → ℕ → ℕ → ℕ → Bool
-wellFormed l b c d =
+unfoldable pub well_formed : Lead → ℕ → ℕ → ℕ → Bool
+well_formed l b c d =
     cond (eqb l.width 0) false
     (needed 2 l.width l.low l.high b && (needed 3 l.width 0x80 0xBF c && needed 4 l.width 0x80 0xBF d))
 
 -- section 3: the x of 0xxxxxxx, 110xxxxx 10xxxxxx, 1110xxxx 10xxxxxx 10xxxxxx, 11110xxx 10xxxxxx 10xxxxxx 10xxxxxx
-unfoldable pub scalarOf : ℕ → ℕ → ℕ → ℕ → ℕ → ℕ
-scalarOf w a b c d =
+unfoldable pub scalar_of : ℕ → ℕ → ℕ → ℕ → ℕ → ℕ
+scalar_of w a b c d =
     cond (eqb w 1) a
     (cond (eqb w 2) (a % 32 * 64 + b % 64)
     (cond (eqb w 3) (a % 16 * 4096 + b % 64 * 64 + c % 64)
     (a % 8 * 262144 + b % 64 * 4096 + c % 64 * 64 + d % 64)))
 
-unfoldable pub charOf : ℕ → ℕ → ℕ → ℕ → Decoded
-charOf a b c d =
-    cond (wellFormed (leadOf a) b c d) (Char (scalarOf (leadOf a).width a b c d) (leadOf a).width) Bad
+unfoldable pub char_of : ℕ → ℕ → ℕ → ℕ → Decoded
+char_of a b c d =
+    cond (well_formed (lead_of a) b c d) (Char (scalar_of (lead_of a).width a b c d) (lead_of a).width) Bad
 
 -- UTF8-char: the character at the front of a text (past its end we read 0, which no row has as a later byte)
 unfoldable pub front : List ℕ → Decoded
 front [] = Bad
-front (a ∷ s) = charOf a (get_or s 0 0) (get_or s 1 0) (get_or s 2 0)
+front (a ∷ s) = char_of a (get_or s 0 0) (get_or s 1 0) (get_or s 2 0)

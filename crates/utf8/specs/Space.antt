@@ -17,5 +17,5 @@ spaces =
     span 0x3000 0x3000 true ∷
     []
 
-unfoldable pub whiteSpace : ℕ → Bool
-whiteSpace = find false spaces
+unfoldable pub white_space : ℕ → Bool
+white_space = find false spaces

@@ -1,8 +1,8 @@
 // UTF-8 as RFC 3629 defines it: the character at a place, the longest well-formed prefix, ASCII texts; and Unicode's White_Space.
 ghost use Rattle.std.specs.Prelude.{◌≡◌, ◌+◌, ◌*◌, ◌%◌, ◌^◌, ◌<◌, ◌≤◌, ltb, length, take, drop};
-ghost use Rattle.utf8.specs.Rfc3629.{lead, leadOf, needed, wellFormed, scalarOf, front};
-ghost use Rattle.utf8.specs.Chars.{ascii, validPrefix};
-ghost use Rattle.utf8.specs.Space.{whiteSpace};
+ghost use Rattle.utf8.specs.Rfc3629.{lead, lead_of, needed, well_formed, scalar_of, front};
+ghost use Rattle.utf8.specs.Chars.{ascii, valid_prefix};
+ghost use Rattle.utf8.specs.Space.{white_space};
 
 // What a first byte says: the width of its character (0: no character starts with it) and the range of the second byte.
 #[derive(Drop)]
@@ -29,7 +29,7 @@ impl Lead {
 }
 
 pub fn lead_of(a: u8) -> Lead
-    ensures { result ≡ leadOf a }
+    ensures { result ≡ lead_of a }
 {
     match a {
         0x00..=0x7F => Lead::new(1, 0, 0),
@@ -46,7 +46,7 @@ pub fn lead_of(a: u8) -> Lead
 }
 
 pub fn is_white_space(c: u32) -> bool
-    ensures { result ≡ whiteSpace c }
+    ensures { result ≡ white_space c }
 {
     match c {
         0x0009..=0x000D
@@ -79,7 +79,7 @@ fn need(k: usize, w: usize, low: u8, high: u8, x: u8) -> bool
 
 // The bytes b, c and d may follow a first byte whose row is `l`, as far as its character has them.
 fn well_formed(l: Lead, b: u8, c: u8, d: u8) -> bool
-    ensures { result ≡ wellFormed l b c d }
+    ensures { result ≡ well_formed l b c d }
 {
     let w = l.width;
     if w == 0 {
@@ -110,7 +110,7 @@ fn joined(bits: u32, x: u8) -> u32
 
 // The bits that a character's bytes carry.
 fn scalar(w: usize, a: u8, b: u8, c: u8, d: u8) -> u32
-    ensures { result ≡ scalarOf w a b c d }
+    ensures { result ≡ scalar_of w a b c d }
 {
     if w == 1 {
         return wide(a);
@@ -205,7 +205,7 @@ pub fn is_ascii(s: &[u8]) -> bool
 // The length of the longest well-formed prefix, found one character after the other. An ASCII byte is a character by itself, and needs no look
 // at the table.
 fn walked_prefix(s: &[u8]) -> usize
-    ensures { result ≡ validPrefix s.now }
+    ensures { result ≡ valid_prefix s.now }
 {
     let mut at = 0;
     while at < s.len() {
@@ -227,7 +227,7 @@ fn walked_prefix(s: &[u8]) -> usize
 
 // The length of the longest well-formed prefix. Most fields are ASCII, and so well-formed as a whole.
 pub fn valid_prefix(s: &[u8]) -> usize
-    ensures { result ≡ validPrefix s.now }
+    ensures { result ≡ valid_prefix s.now }
 {
     if is_ascii(s) {
         return s.len();

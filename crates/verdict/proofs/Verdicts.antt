@@ -9,25 +9,25 @@ use lib.ListN.{length, get_or, length-append, get_or-append}
 use borrow.Author.Tests.{le-ltb}
 use Rattle.answer.specs.Table.{place_of, value_of}
 use Rattle.answer.specs.declared.Answer.{Answer}
-use Rattle.record.specs.Number.{littleAt, Bytes}
+use Rattle.record.specs.Number.{little_at, Bytes}
 use Rattle.record.proofs.Numbers.{number_append, number-most, read_back}
-use Rattle.verdict.specs.Verdict.{verdictSize, answerBytes, verdict, readVerdict, saying}
+use Rattle.verdict.specs.Verdict.{verdict_size, answer_bytes, verdict, read_verdict, saying}
 use Rattle.verdict.specs.declared.Verdict.{Verdict}
 
-pub length-verdict : (kind offset : ℕ) (a : Answer) → length (verdict kind offset a) ≡ verdictSize
-unfolding verdict answerBytes
+pub length-verdict : (kind offset : ℕ) (a : Answer) → length (verdict kind offset a) ≡ verdict_size
+unfolding verdict answer_bytes
 length-verdict kind offset a = refl
 
 -- the numbers of a whole verdict, at their places
 abbrev at : List ℕ → Verdict
-at v = record { offset = littleAt v 4 8; kind = littleAt v 2 2; answer = get_or v 12 0; place = littleAt v 14 2; number = littleAt v 16 8 }
+at v = record { offset = little_at v 4 8; kind = little_at v 2 2; answer = get_or v 12 0; place = little_at v 14 2; number = little_at v 16 8 }
 
-read_whole : (v : List ℕ) → verdictSize ≤ length v → readVerdict v ≡ at v
-unfolding readVerdict
-read_whole v h = simp (le-ltb (length v) verdictSize h)
+read_whole : (v : List ℕ) → verdict_size ≤ length v → read_verdict v ≡ at v
+unfolding read_verdict
+read_whole v h = simp (le-ltb (length v) verdict_size h)
 
 -- bytes that follow a verdict do not change it
-pub read-front : (v more : List ℕ) → verdictSize ≤ length v → readVerdict (v ++ more) ≡ readVerdict v
+pub read-front : (v more : List ℕ) → verdict_size ≤ length v → read_verdict (v ++ more) ≡ read_verdict v
 read-front v more h =
     rw (read_whole v h, read_whole (v ++ more) (omega (arith, length-append v more)))
     (rw (
@@ -46,9 +46,9 @@ pub record Most (v : Verdict) : Type 0 where
   pub place : v.place < 2 ^ 16
   pub number : v.number < 2 ^ 64
 
-pub read-most : (v : List ℕ) → Bytes v → Most (readVerdict v)
-unfolding readVerdict
-read-most v b = go (ltb (length v) verdictSize)
+pub read-most : (v : List ℕ) → Bytes v → Most (read_verdict v)
+unfolding read_verdict
+read-most v b = go (ltb (length v) verdict_size)
   where
     go : (t : Bool) → Most (cond t (record { offset = 0; kind = 0; answer = 0; place = 0; number = 0 }) (at v))
     go true = record { offset = omega arith; kind = omega arith; answer = omega arith; place = omega arith; number = omega arith }
@@ -63,13 +63,13 @@ read-most v b = go (ltb (length v) verdictSize)
 
 -- what was written is read back: nothing is lost of numbers that the bytes hold
 pub read-verdict : (kind offset : ℕ) (a : Answer) (more : List ℕ) → kind < 2 ^ 16 → offset < 2 ^ 64 → place_of a < 2 ^ 16 → value_of a < 2 ^ 64
-    → readVerdict (verdict kind offset a ++ more) ≡ saying kind offset a
-unfolding verdict answerBytes
+    → read_verdict (verdict kind offset a ++ more) ≡ saying kind offset a
+unfolding verdict answer_bytes
 read-verdict kind offset a more f g p n =
     read_whole (verdict kind offset a ++ more) (omega arith)
     ∙ rw (read_back 8 offset g, read_back 2 kind f, read_back 2 (place_of a) p, read_back 8 (value_of a) n)
 
 -- the offset by itself, whatever the other numbers are
-pub read-offset : (kind offset : ℕ) (a : Answer) (more : List ℕ) → offset < 2 ^ 64 → (readVerdict (verdict kind offset a ++ more)).offset ≡ offset
-unfolding verdict answerBytes
+pub read-offset : (kind offset : ℕ) (a : Answer) (more : List ℕ) → offset < 2 ^ 64 → (read_verdict (verdict kind offset a ++ more)).offset ≡ offset
+unfolding verdict answer_bytes
 read-offset kind offset a more h = rw (read_whole (verdict kind offset a ++ more) (omega arith)) (read_back 8 offset h)

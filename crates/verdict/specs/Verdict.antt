@@ -2,31 +2,31 @@
 use Rattle.std.specs.Prelude.{ℕ, ◌-◌, cond, List, ◌∷◌, ◌++◌, ltb, length, get_or}
 use Rattle.answer.specs.Table.{number_of, place_of, value_of}
 use Rattle.answer.specs.declared.Answer.{Answer}
-use Rattle.record.specs.Number.{to_bytes, littleAt}
+use Rattle.record.specs.Number.{to_bytes, little_at}
 use Rattle.verdict.specs.declared.Verdict.{Verdict}
 
 -- how many bytes each record yields
-abbrev pub verdictSize : ℕ
-verdictSize = 24
+abbrev pub verdict_size : ℕ
+verdict_size = 24
 
 -- an answer's part of them: the answer, zero, place, number
-unfoldable pub answerBytes : Answer → List ℕ
-answerBytes a = number_of a ∷ 0 ∷ to_bytes 2 (place_of a) ++ to_bytes 8 (value_of a)
+unfoldable pub answer_bytes : Answer → List ℕ
+answer_bytes a = number_of a ∷ 0 ∷ to_bytes 2 (place_of a) ++ to_bytes 8 (value_of a)
 
 -- the length counts what follows the first four bytes, as in a record
 unfoldable pub verdict : ℕ → ℕ → Answer → List ℕ
-verdict kind offset a = to_bytes 2 (verdictSize - 4) ++ (to_bytes 2 kind ++ (to_bytes 8 offset ++ answerBytes a))
+verdict kind offset a = to_bytes 2 (verdict_size - 4) ++ (to_bytes 2 kind ++ (to_bytes 8 offset ++ answer_bytes a))
 
 -- what the verdict at the start of v says, by the places where its numbers stand; fewer bytes than a verdict has say nothing
-unfoldable pub readVerdict : List ℕ → Verdict
-readVerdict v =
-    cond (ltb (length v) verdictSize) (record { offset = 0; kind = 0; answer = 0; place = 0; number = 0 })
+unfoldable pub read_verdict : List ℕ → Verdict
+read_verdict v =
+    cond (ltb (length v) verdict_size) (record { offset = 0; kind = 0; answer = 0; place = 0; number = 0 })
     (record {
-      offset = littleAt v 4 8;
-      kind = littleAt v 2 2;
+      offset = little_at v 4 8;
+      kind = little_at v 2 2;
       answer = get_or v 12 0;
-      place = littleAt v 14 2;
-      number = littleAt v 16 8;
+      place = little_at v 14 2;
+      number = little_at v 16 8;
     })
 
 -- what a verdict says that was written with this kind, offset and answer

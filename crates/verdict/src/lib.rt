@@ -1,6 +1,6 @@
 // A verdict: what a call writes for each record. Its bytes are put together and read back here, and nobody else knows their places.
 ghost use Rattle.std.specs.Prelude.{◌≡◌};
-ghost use Rattle.verdict.specs.Verdict.{answerBytes, verdict, readVerdict};
+ghost use Rattle.verdict.specs.Verdict.{answer_bytes, verdict, read_verdict};
 
 use answer::Answer;
 
@@ -19,7 +19,7 @@ pub struct Verdict {
 
 // An answer's part of a verdict: the answer, zero, place, number.
 pub fn answer_bytes(a: Answer) -> [u8; 12]
-    ensures { result ≡ answerBytes a }
+    ensures { result ≡ answer_bytes a }
 {
     let p = a.place();
     let n = record::eight(a.value());
@@ -76,7 +76,7 @@ pub fn verdict_bytes(kind: u16, offset: u64, a: Answer) -> [u8; VERDICT_SIZE]
 // What the verdict at the start of `v` says, read from the places where it was written; fewer bytes than a verdict has say nothing, 0
 // throughout.
 pub fn read_verdict(v: &[u8]) -> Verdict
-    ensures { result ≡ readVerdict v.now }
+    ensures { result ≡ read_verdict v.now }
 {
     if v.len() < VERDICT_SIZE {
         return Verdict {

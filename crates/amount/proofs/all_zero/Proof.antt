@@ -5,13 +5,13 @@ use mathlib.Core.Logic.{⊎_elim}
 use native.Mathlib.Omega.{arith}
 use borrow.Author.Tests.{leb-true, leb-false}
 use lib.ListN.{length, get_or, drop}
-use Rattle.amount.specs.Amount.{allZero}
-use Rattle.amount.proofs.Zeros.{zero-here, zero-next, zero-none}
+use Rattle.amount.specs.Amount.{all_zero}
+use Rattle.amount.proofs.Zeros.{zero_here, zero_next, zero_none}
 use Rattle.amount.proofs.all_zero.Statement.{statement}
 use Rattle.amount.proofs.all_zero.Tie as tie
 
 abbrev invariant-loop : tie.invariant-loop
-invariant-loop s i₀ i = (i ≤ length s) × (allZero s ≡ allZero (drop i s))
+invariant-loop s i₀ i = (i ≤ length s) × (all_zero s ≡ all_zero (drop i s))
 
 abbrev decreases-loop : tie.decreases-loop
 decreases-loop s i₀ i = length s - i
@@ -29,7 +29,7 @@ returns : tie.Need-returns invariant-loop decreases-loop
 returns c =
     let k = c.before.before.before.before.before in
     let s = k.before.args.s.now in
-    zero-here s k.loop.i (omega arith) c.before.before.if1.true (leb-true (get_or s k.loop.i 0) 57 c.if2.true) ∙ sym k.loop.invariant.1
+    zero_here s k.loop.i (omega arith) c.before.before.if1.true (leb-true (get_or s k.loop.i 0) 57 c.if2.true) ∙ sym k.loop.invariant.1
 
 add-i : tie.Need-overflow-add-i invariant-loop decreases-loop
 add-i c = omega arith
@@ -42,13 +42,13 @@ loop-again c =
     let k = c.before.before.before in
     let s = k.before.args.s.now in
     let h = c.before.before.loop-test.true in
-    (omega arith, k.loop.invariant.1 ∙ zero-next s k.loop.i h (λ l u. ⊎_elim (λ w. omega (arith, leb-false (get_or s k.loop.i 0) 57 w.2.left)) (λ w. omega arith) c.if1.branch))
+    (omega arith, k.loop.invariant.1 ∙ zero_next s k.loop.i h (λ l u. ⊎_elim (λ w. omega (arith, leb-false (get_or s k.loop.i 0) 57 w.2.left)) (λ w. omega arith) c.if1.branch))
 
 returns-2 : tie.Need-returns-2 invariant-loop decreases-loop
 returns-2 c =
     let k = c.before in
     let s = k.before.args.s.now in
-    zero-none s k.loop.i (omega arith) ∙ sym k.loop.invariant.1
+    zero_none s k.loop.i (omega arith) ∙ sym k.loop.invariant.1
 
 pub all-zero-spec : {M : Type 1} → statement M
 all-zero-spec =

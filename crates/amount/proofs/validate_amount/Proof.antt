@@ -1,7 +1,7 @@
 -- `amount::validate_amount` meets its contract: its steps are the definition's, at the places that `start` and `first_place` give.
 use borrow.Author.Rules.{rules}
-use Rattle.answer.proofs.Laws.{accept-is, then_is}
-use Rattle.amount.specs.Amount.{validateAmount}
+use Rattle.answer.proofs.Laws.{accept_is, then_is}
+use Rattle.amount.specs.Amount.{validate_amount}
 use Rattle.amount.proofs.validate_amount.Statement.{statement}
 use Rattle.amount.proofs.validate_amount.Tie as tie
 
@@ -42,11 +42,11 @@ or-accept-requires : tie.Need-or-accept-requires
 or-accept-requires c κs = search rules
 
 returns : tie.Need-returns
-unfolding validateAmount
+unfolding validate_amount
 returns c =
     let b = c.before.before.before.before.before.before.before.before.before.before in
     rw (← b.first-place.ensures, ← b.before.start.ensures)
-    (accept-is _ c.or-accept.ensures
+    (accept_is _ c.or-accept.ensures
     (then_is c.before.then4.ensures
     (then_is c.before.before.before.then3.ensures
     (then_is c.before.before.before.before.before.then2.ensures

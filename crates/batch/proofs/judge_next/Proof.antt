@@ -4,7 +4,7 @@ use mathlib.Core.Path.{◌≡◌, ◌∙◌, sym}
 use native.Mathlib.Omega.{arith}
 use lib.ListN.{length, drop, length-drop, take-append-drop}
 use Rattle.record.specs.Head.{head_of}
-use Rattle.batch.specs.Verdicts.{verdictOf}
+use Rattle.batch.specs.Verdicts.{verdict_of}
 use Rattle.batch.specs.Walk.{next_of}
 use Rattle.record.proofs.Heads.{Whole, whole}
 use Rattle.batch.proofs.Acts.{Judged, judged}
@@ -91,7 +91,7 @@ same_length : tie.Need-same-length
 same_length c = search rules
 
 returns-2 : tie.Need-returns-2
-unfolding verdictOf
+unfolding verdict_of
 returns-2 c =
     let d = c.before.before in
     let j = d.before.before in

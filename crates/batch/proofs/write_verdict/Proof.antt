@@ -1,6 +1,6 @@
 -- `batch::write_verdict` meets its contract: the array is the verdict, and is copied to the start of the output.
 use Rattle.record.proofs.Parts.{copied}
-use Rattle.verdict.specs.Verdict.{verdictSize}
+use Rattle.verdict.specs.Verdict.{verdict_size}
 use Rattle.verdict.proofs.Verdicts.{length-verdict}
 use borrow.Author.Rules.{rules}
 use Rattle.batch.proofs.write_verdict.Statement.{statement}
@@ -21,7 +21,7 @@ same_length c = search rules
 returns : tie.Need-returns
 returns c =
     let v = c.before.before.before.before.before.verdict-bytes in
-    copied verdictSize v.result _ _ _ v.ensures (length-verdict _ _ _) c.before.before.copy.ensures.1
+    copied verdict_size v.result _ _ _ v.ensures (length-verdict _ _ _) c.before.before.copy.ensures.1
 
 pub write-verdict-spec : {M : Type 1} → statement M
 write-verdict-spec =

@@ -1,7 +1,7 @@
 -- `bic::validate_bic` meets its contract: where the length stops the answer is its refusal, and where it passes that of the other steps.
-use Rattle.answer.specs.Steps.{◌andThen◌, ◌orAccept◌}
-use Rattle.answer.proofs.Laws.{accept-is, then_is}
-use Rattle.bic.specs.Bic.{bicAnswer}
+use Rattle.answer.specs.Steps.{◌and_then◌, ◌or_accept◌}
+use Rattle.answer.proofs.Laws.{accept_is, then_is}
+use Rattle.bic.specs.Bic.{bic_answer}
 use borrow.Author.Rules.{rules}
 use Rattle.bic.proofs.validate_bic.Statement.{statement}
 use Rattle.bic.proofs.validate_bic.Tie as tie
@@ -28,14 +28,14 @@ enum-known-reason : tie.Need-enum-known-reason
 enum-known-reason c = search rules
 
 returns : tie.Need-returns
-unfolding bicAnswer ◌andThen◌
+unfolding bic_answer ◌and_then◌
 returns c =
     rw (← c.before.before.before.before.before.before.bic-length.ensures, c.before.before.before.before.enum_told.given.1)
-    (accept-is 0 c.or-accept.ensures
+    (accept_is 0 c.or-accept.ensures
     (then_is c.before.then.ensures c.before.before.before.first-wrong.ensures c.before.before.first-wrong2.ensures))
 
 returns-2 : tie.Need-returns-2
-unfolding bicAnswer ◌andThen◌ ◌orAccept◌
+unfolding bic_answer ◌and_then◌ ◌or_accept◌
 returns-2 c = rw (← c.before.before.before.bic-length.ensures, c.before.reason.given.1)
 
 pub validate-bic-spec : {M : Type 1} → statement M

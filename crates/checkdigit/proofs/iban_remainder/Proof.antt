@@ -1,7 +1,7 @@
 -- `checkdigit::iban_remainder` meets its contract: the remainder of the rest goes on over the first four characters.
 use mathlib.Core.Path.{◌∙◌}
 use borrow.Author.Rules.{rules}
-use Rattle.checkdigit.proofs.Iban.{short-sum, moved_sum}
+use Rattle.checkdigit.proofs.Iban.{short_sum, moved_sum}
 use Rattle.checkdigit.proofs.iban_remainder.Statement.{statement}
 use Rattle.checkdigit.proofs.iban_remainder.Tie as tie
 
@@ -9,7 +9,7 @@ remainder-requires : tie.Need-remainder-requires
 remainder-requires c κs = search rules
 
 returns : tie.Need-returns
-returns c = record { is = c.remainder.ensures.is ∙ short-sum _ c.before.if1.true; low = c.remainder.ensures.low }
+returns c = record { is = c.remainder.ensures.is ∙ short_sum _ c.before.if1.true; low = c.remainder.ensures.low }
 
 sub-onward : tie.Need-overflow-sub-onward
 sub-onward c = search rules

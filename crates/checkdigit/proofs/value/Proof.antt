@@ -4,9 +4,9 @@ use mathlib.Core.Bool.{false}
 use mathlib.Core.Logic.{⊎_elim}
 use native.Mathlib.Omega.{arith}
 use borrow.Author.Rules.{rules}
-use Rattle.text.specs.Class.{isDigit}
-use Rattle.text.proofs.Classes.{is_digit, below-digits, above-digits}
-use Rattle.checkdigit.specs.Sum.{characterValue}
+use Rattle.text.specs.Class.{is_digit}
+use Rattle.text.proofs.Classes.{is_digit_lem, below_digits, above_digits}
+use Rattle.checkdigit.specs.Sum.{character_value}
 use Rattle.checkdigit.proofs.value.Statement.{statement}
 use Rattle.checkdigit.proofs.value.Tie as tie
 
@@ -17,15 +17,15 @@ letter-value-requires : tie.Need-letter-value-requires
 letter-value-requires c κs = search rules
 
 returns : tie.Need-returns
-unfolding characterValue
-returns c = let a = c.before.before.before.args in rw (is_digit a.b (omega arith) (omega arith)) c.wide.ensures
+unfolding character_value
+returns c = let a = c.before.before.before.args in rw (is_digit_lem a.b (omega arith) (omega arith)) c.wide.ensures
 
 returns-2 : tie.Need-returns-2
-unfolding characterValue
+unfolding character_value
 returns-2 c =
     let a = c.before.before.args in
-    let other : isDigit a.b ≡ false =
-    ⊎_elim (λ w. below-digits a.b (omega arith)) (λ w. above-digits a.b (omega arith)) c.before.if1.branch in
+    let other : is_digit a.b ≡ false =
+    ⊎_elim (λ w. below_digits a.b (omega arith)) (λ w. above_digits a.b (omega arith)) c.before.if1.branch in
     rw other c.letter-value.ensures
 
 pub value_spec : {M : Type 1} → statement M

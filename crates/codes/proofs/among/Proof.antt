@@ -6,7 +6,7 @@ use native.Mathlib.Omega.{arith}
 use borrow.Author.Rules.{rules}
 use lib.ListN.{length, drop}
 use Rattle.codes.specs.Codes.{among}
-use Rattle.codes.proofs.Laws.{among-here, among_next, among_none}
+use Rattle.codes.proofs.Laws.{among_here, among_next, among_none}
 use Rattle.codes.proofs.among.Statement.{statement}
 use Rattle.codes.proofs.among.Tie as tie
 
@@ -29,7 +29,7 @@ returns : tie.Need-returns invariant-loop decreases-loop
 returns c =
     let k = c.before.before.before in
     let a = k.before.args in
-    sym (k.loop.invariant.1 ∙ among-here a.code a.table.now k.loop.i c.before.before.loop-test.true c.if1.true)
+    sym (k.loop.invariant.1 ∙ among_here a.code a.table.now k.loop.i c.before.before.loop-test.true c.if1.true)
 
 add-i : tie.Need-overflow-add-i invariant-loop decreases-loop
 add-i c = omega arith

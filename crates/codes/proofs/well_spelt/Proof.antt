@@ -1,6 +1,6 @@
 -- `codes::well_spelt` meets its contract: what each call ensures, joined in the definition's order.
 use Rattle.answer.proofs.Laws.{then_is}
-use Rattle.codes.specs.Codes.{wellSpelt}
+use Rattle.codes.specs.Codes.{well_spelt}
 use borrow.Author.Rules.{rules}
 use Rattle.codes.proofs.well_spelt.Statement.{statement}
 use Rattle.codes.proofs.well_spelt.Tie as tie
@@ -42,7 +42,7 @@ then-requires-3 : tie.Need-then-requires-3
 then-requires-3 c κs = search rules
 
 returns : tie.Need-returns
-unfolding wellSpelt
+unfolding well_spelt
 returns c =
     then_is c.then3.ensures
     (then_is c.before.before.then2.ensures

@@ -7,25 +7,25 @@ use native.Mathlib.Omega.{arith}
 use borrow.Author.Tests.{not-true, not-false, ltb-true, ltb-false}
 use borrow.Author.Rules.{rules}
 use lib.ListN.{get_or}
-use Rattle.text.specs.Class.{isDigit}
-use Rattle.text.proofs.Classes.{digit-ends}
-use Rattle.text.proofs.Fields.{wrong-here, wrong-none}
-use Rattle.text.specs.Field.{firstWrong, wrongFrom}
+use Rattle.text.specs.Class.{is_digit}
+use Rattle.text.proofs.Classes.{digit_ends}
+use Rattle.text.proofs.Fields.{wrong_here, wrong_none}
+use Rattle.text.specs.Field.{first_wrong, wrong_from}
 use Rattle.text.specs.declared.Set.TheVariants.{Digits}
-use Rattle.common.specs.Cents.{numberBetween}
-use Rattle.common.proofs.Reading.{digits-wrong, digits-fit, digits-past, number-empty, number-part, number-next, wrong-next}
+use Rattle.common.specs.Cents.{number_between}
+use Rattle.common.proofs.Reading.{digits_wrong, digits_fit, digits-past, number_empty, number-part, number-next, wrong_next}
 use Rattle.common.proofs.digits.Statement.{statement}
 use Rattle.common.proofs.digits.Tie as tie
 
 abbrev invariant-loop : tie.invariant-loop
-invariant-loop s at to check n₀ i₀ n i = (at ≤ i) × (i ≤ to) × (n < 2 ^ 64) × (n ≡ numberBetween s at i) × (firstWrong Digits s at to check ≡ wrongFrom Digits s i (to - i) check)
+invariant-loop s at to check n₀ i₀ n i = (at ≤ i) × (i ≤ to) × (n < 2 ^ 64) × (n ≡ number_between s at i) × (first_wrong Digits s at to check ≡ wrong_from Digits s i (to - i) check)
 
 abbrev decreases-loop : tie.decreases-loop
 decreases-loop s at to check n₀ i₀ n i = to - i
 
 -- the byte that was read is a digit
 good : (c : tie.Else1 invariant-loop decreases-loop)
-    → isDigit (get_or c.before.before.before.before.before.before.args.s.now c.before.before.before.before.loop.i 0) ≡ true
+    → is_digit (get_or c.before.before.before.before.before.before.args.s.now c.before.before.before.before.loop.i 0) ≡ true
 good c = rw (← c.before.allows.ensures) (not-false _ c.if1.false)
 
 ends : (c : tie.Else1 invariant-loop decreases-loop)
@@ -33,7 +33,7 @@ ends : (c : tie.Else1 invariant-loop decreases-loop)
     × (get_or c.before.before.before.before.before.before.args.s.now c.before.before.before.before.loop.i 0 ≤ 57)
 ends c =
     let k = c.before.before.before.before in
-    digit-ends (get_or k.before.before.args.s.now k.loop.i 0) (rw (good c) tt)
+    digit_ends (get_or k.before.before.args.s.now k.loop.i 0) (rw (good c) tt)
 
 -- the number with the digit is below 2^64
 sum_fits : (c : tie.Then2 invariant-loop decreases-loop)
@@ -41,10 +41,10 @@ sum_fits : (c : tie.Then2 invariant-loop decreases-loop)
 sum_fits c = ltb-true _ _ (sym c.before.has_room.ensures ∙ c.if2.true)
 
 loop-holds : tie.Need-loop-init invariant-loop decreases-loop
-unfolding firstWrong
+unfolding first_wrong
 loop-holds c =
     let a = c.before.args in
-    (omega arith, omega arith, omega arith, sym (number-empty a.s.now a.at a.at (omega arith)), refl)
+    (omega arith, omega arith, omega arith, sym (number_empty a.s.now a.at a.at (omega arith)), refl)
 
 shared-slice-read-b : tie.Need-shared-slice-read-b invariant-loop decreases-loop
 shared-slice-read-b c = omega arith
@@ -56,8 +56,8 @@ returns : tie.Need-returns invariant-loop decreases-loop
 returns c =
     let k = c.before.before.before.before in
     let a = k.before.before.args in
-    digits-wrong a.s.now a.at a.to a.check _ _
-    (k.loop.invariant.4 ∙ wrong-here Digits a.s.now k.loop.i a.check (a.to - k.loop.i) (omega arith)
+    digits_wrong a.s.now a.at a.to a.check _ _
+    (k.loop.invariant.4 ∙ wrong_here Digits a.s.now k.loop.i a.check (a.to - k.loop.i) (omega arith)
     (rw (← c.before.allows.ensures) (not-true _ c.if1.true)))
 
 sub-d : tie.Need-overflow-sub-d invariant-loop decreases-loop
@@ -91,7 +91,7 @@ loop-again c =
       omega arith,
       omega (arith, sum_fits c),
       omega (arith, number-next a.s.now a.at k.loop.i k.loop.invariant.0 (omega arith)),
-      k.loop.invariant.4 ∙ wrong-next a.s.now a.at k.loop.i k.loop.invariant.0 a.to a.check h (good g),
+      k.loop.invariant.4 ∙ wrong_next a.s.now a.at k.loop.i k.loop.invariant.0 a.to a.check h (good g),
     )
 
 first-wrong-requires : tie.Need-first-wrong-requires invariant-loop decreases-loop
@@ -101,7 +101,7 @@ past-limit-requires : tie.Need-past-limit-requires invariant-loop decreases-loop
 past-limit-requires c κs = search rules
 
 returns-2 : tie.Need-returns-2 invariant-loop decreases-loop
-unfolding firstWrong
+unfolding first_wrong
 returns-2 c =
     let e = c.before.before in
     let g = e.before.before in
@@ -120,7 +120,7 @@ returns-3 c =
     let a = k.before.before.args in
     let all : k.loop.i ≡ a.to = omega arith in
     let none : a.to - k.loop.i ≡ 0 = omega arith in
-    digits-fit a.s.now a.at a.to a.check k.loop.n (k.loop.invariant.4 ∙ rw none (sym (wrong-none Digits a.s.now k.loop.i a.check)))
+    digits_fit a.s.now a.at a.to a.check k.loop.n (k.loop.invariant.4 ∙ rw none (sym (wrong_none Digits a.s.now k.loop.i a.check)))
     (rw (← all) k.loop.invariant.3) k.loop.invariant.2
 
 pub digits-spec : {M : Type 1} → statement M

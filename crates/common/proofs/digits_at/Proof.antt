@@ -2,7 +2,7 @@
 use mathlib.Core.Logic.{⊎_elim}
 use borrow.Author.Tests.{lt-ltb, le-ltb}
 use borrow.Author.Rules.{rules}
-use Rattle.common.specs.Cents.{digitsAt}
+use Rattle.common.specs.Cents.{digits_at}
 use Rattle.common.proofs.digits_at.Statement.{statement}
 use Rattle.common.proofs.digits_at.Tie as tie
 
@@ -13,11 +13,11 @@ add-result : tie.Need-overflow-add-result
 add-result c = search rules
 
 returns : tie.Need-returns
-unfolding digitsAt
+unfolding digits_at
 returns c = rw (lt-ltb _ _ c.before.before.if1.true, c.if2.true)
 
 returns-2 : tie.Need-returns-2
-unfolding digitsAt
+unfolding digits_at
 returns-2 c = ⊎_elim (λ w. rw (lt-ltb _ _ w.0.taken, w.2.left)) (λ w. rw (le-ltb _ _ w.left)) c.if1.branch
 
 pub digits-at-spec : {M : Type 1} → statement M

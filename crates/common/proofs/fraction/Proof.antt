@@ -6,7 +6,7 @@ use native.Mathlib.Omega.{arith}
 use borrow.Author.Tests.{ltb-true, ltb-false}
 use borrow.Author.Rules.{rules}
 use lib.ListN.{length}
-use Rattle.common.proofs.Reading.{whole-most, fraction-length, fraction-none, fraction-one, fraction-two, fraction-wrong}
+use Rattle.common.proofs.Reading.{whole-most, fraction-length, fraction-none, fraction_one, fraction_two, fraction_wrong}
 use Rattle.common.proofs.fraction.Statement.{statement}
 use Rattle.common.proofs.fraction.Tie as tie
 
@@ -47,21 +47,21 @@ returns-3 : tie.Need-returns-3
 returns-3 c =
     let w = c.before.before.before.before in
     let a = w.before.before.before.before.before.args in
-    fraction-one a.least a.s.now a.from a.check (omega arith) (omega arith) (omega arith) _ c.if4.true (sym w.whole.ensures ∙ c.before.before.n.given.1)
+    fraction_one a.least a.s.now a.from a.check (omega arith) (omega arith) (omega arith) _ c.if4.true (sym w.whole.ensures ∙ c.before.before.n.given.1)
 
 returns-4 : tie.Need-returns-4
 returns-4 c =
     let w = c.before.before.before.before in
     let e = w.before.before in
     let a = e.before.before.before.args in
-    fraction-two a.least a.s.now a.from a.check (omega arith) (ltb-false _ _ e.if2.false) (omega arith) _ c.if4.false (sym w.whole.ensures ∙ c.before.before.n.given.1)
+    fraction_two a.least a.s.now a.from a.check (omega arith) (ltb-false _ _ e.if2.false) (omega arith) _ c.if4.false (sym w.whole.ensures ∙ c.before.before.n.given.1)
 
 returns-5 : tie.Need-returns-5
 returns-5 c =
     let w = c.before.before.before in
     let e = w.before.before in
     let a = e.before.before.before.args in
-    fraction-wrong a.least a.s.now a.from a.check (omega arith) (ltb-false _ _ e.if2.false) (omega arith) _ _ (sym w.whole.ensures ∙ c.before.reason.given.1)
+    fraction_wrong a.least a.s.now a.from a.check (omega arith) (ltb-false _ _ e.if2.false) (omega arith) _ _ (sym w.whole.ensures ∙ c.before.reason.given.1)
 
 pub fraction-spec : {M : Type 1} → statement M
 fraction-spec =

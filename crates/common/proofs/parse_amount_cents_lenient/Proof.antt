@@ -1,6 +1,6 @@
 -- `common::parse_amount_cents_lenient` meets its contract: its steps are the shared ones.
 use borrow.Author.Rules.{rules}
-use Rattle.common.specs.Cents.{parseAmountCentsLenient}
+use Rattle.common.specs.Cents.{parse_amount_cents_lenient}
 use Rattle.common.proofs.parse_amount_cents_lenient.Statement.{statement}
 use Rattle.common.proofs.parse_amount_cents_lenient.Tie as tie
 
@@ -11,7 +11,7 @@ parts-requires : tie.Need-parts-requires
 parts-requires c κs = search rules
 
 returns : tie.Need-returns
-unfolding parseAmountCentsLenient
+unfolding parse_amount_cents_lenient
 returns c = c.parts.ensures
 
 pub parse-amount-cents-lenient-spec : {M : Type 1} → statement M

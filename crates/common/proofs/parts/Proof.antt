@@ -2,7 +2,7 @@
 use mathlib.Core.Path.{◌∙◌, sym}
 use native.Mathlib.Omega.{arith}
 use borrow.Author.Rules.{rules}
-use Rattle.common.proofs.Reading.{parts_first, parts-second, parts-total}
+use Rattle.common.proofs.Reading.{parts_first, parts_second, parts-total}
 use Rattle.text.proofs.Fields.{first-most}
 use Rattle.common.proofs.parts.Statement.{statement}
 use Rattle.common.proofs.parts.Tie as tie
@@ -55,7 +55,7 @@ returns-2 c =
     let p = f.before in
     let w = p.before.before.before.before in
     let a = w.before.before.args in
-    parts-second a.least a.s.now a.check a.dot w.before.before.requires.0 _ _ p.past.ensures.0 (sym w.whole.ensures ∙ p.before.before.n.given.1) _ _ (sym f.fraction.ensures ∙ c.before.reason.given.1)
+    parts_second a.least a.s.now a.check a.dot w.before.before.requires.0 _ _ p.past.ensures.0 (sym w.whole.ensures ∙ p.before.before.n.given.1) _ _ (sym f.fraction.ensures ∙ c.before.reason.given.1)
 
 returns-3 : tie.Need-returns-3
 returns-3 c =

@@ -1,6 +1,6 @@
 -- `common::past_limit` meets its contract: the rest's refusal, or that the number is too large.
 use borrow.Author.Rules.{rules}
-use Rattle.answer.specs.Steps.{◌andThen◌}
+use Rattle.answer.specs.Steps.{◌and_then◌}
 use Rattle.common.specs.Inner.{parsed}
 use Rattle.common.proofs.past_limit.Statement.{statement}
 use Rattle.common.proofs.past_limit.Tie as tie
@@ -15,11 +15,11 @@ enum-known-rest : tie.Need-enum-known-rest
 enum-known-rest c = search rules
 
 returns : tie.Need-returns
-unfolding parsed ◌andThen◌
+unfolding parsed ◌and_then◌
 returns c = rw c.enum_told.given.1
 
 returns-2 : tie.Need-returns-2
-unfolding parsed ◌andThen◌
+unfolding parsed ◌and_then◌
 returns-2 c = rw c.before.rest.given.1
 
 pub past-limit-spec : {M : Type 1} → statement M

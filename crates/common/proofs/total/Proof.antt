@@ -3,7 +3,7 @@ use Prim.Native.Nat.{◌+◌, ◌*◌, ◌^◌}
 use native.Mathlib.Omega.{arith}
 use borrow.Author.Tests.{lt-ltb, le-ltb}
 use borrow.Author.Rules.{rules}
-use Rattle.answer.specs.Steps.{◌orAccept◌}
+use Rattle.answer.specs.Steps.{◌or_accept◌}
 use Rattle.common.specs.Cents.{below64}
 use Rattle.common.proofs.total.Statement.{statement}
 use Rattle.common.proofs.total.Tie as tie
@@ -18,11 +18,11 @@ add-t9 : tie.Need-overflow-add-t9
 add-t9 c = search rules
 
 returns : tie.Need-returns
-unfolding below64 ◌orAccept◌
+unfolding below64 ◌or_accept◌
 returns c = rw (lt-ltb (100 * c.before.args.n + c.before.args.m) (2 ^ 64) (omega arith))
 
 returns-2 : tie.Need-returns-2
-unfolding below64 ◌orAccept◌
+unfolding below64 ◌or_accept◌
 returns-2 c = rw (le-ltb (100 * c.before.args.n + c.before.args.m) (2 ^ 64) (omega arith))
 
 pub total-spec : {M : Type 1} → statement M

@@ -2,7 +2,7 @@
 use mathlib.Core.Path.{sym, ◌∙◌}
 use native.Mathlib.Omega.{arith}
 use Rattle.codes.proofs.Laws.{misspelt, by_number}
-use Rattle.country.specs.Country.{countries, countryAnswer}
+use Rattle.country.specs.Country.{countries, country_answer}
 use Rattle.country.proofs.Promises.{formed}
 use borrow.Author.Rules.{rules}
 use Rattle.country.proofs.validate_country.Statement.{statement}
@@ -33,7 +33,7 @@ enum-known-reason : tie.Need-enum-known-reason
 enum-known-reason c = search rules
 
 returns : tie.Need-returns
-unfolding countryAnswer
+unfolding country_answer
 returns c =
     let m = c.before.before in
     let t = m.before.before.before in
@@ -43,7 +43,7 @@ returns c =
     (omega (arith, m.pack.ensures, m.before.at2.ensures, m.before.before.at.ensures)) c.before.listed.ensures
 
 returns-2 : tie.Need-returns-2
-unfolding countryAnswer
+unfolding country_answer
 returns-2 c =
     let w = c.before.before.before in
     misspelt 7 2 w.before.before.args.s.now countries c.before.reason.given.0.0 c.before.reason.given.0.1.0 (sym w.well-spelt.ensures ∙ c.before.reason.given.1)

@@ -2,7 +2,7 @@
 use mathlib.Core.Path.{sym, ◌∙◌}
 use native.Mathlib.Omega.{arith}
 use Rattle.codes.proofs.Laws.{misspelt, by_number}
-use Rattle.currency.specs.Currency.{currencies, currencyAnswer}
+use Rattle.currency.specs.Currency.{currencies, currency_answer}
 use Rattle.currency.proofs.Promises.{formed}
 use borrow.Author.Rules.{rules}
 use Rattle.currency.proofs.validate_currency.Statement.{statement}
@@ -36,7 +36,7 @@ enum-known-reason : tie.Need-enum-known-reason
 enum-known-reason c = search rules
 
 returns : tie.Need-returns
-unfolding currencyAnswer
+unfolding currency_answer
 returns c =
     let m = c.before.before in
     let b = m.before.before in
@@ -47,7 +47,7 @@ returns c =
     (omega (arith, m.pack.ensures, m.before.at3.ensures, b.at2.ensures, b.before.at.ensures)) c.before.listed.ensures
 
 returns-2 : tie.Need-returns-2
-unfolding currencyAnswer
+unfolding currency_answer
 returns-2 c =
     let w = c.before.before.before in
     misspelt 8 3 w.before.before.args.s.now currencies c.before.reason.given.0.0 c.before.reason.given.0.1.0 (sym w.well-spelt.ensures ∙ c.before.reason.given.1)

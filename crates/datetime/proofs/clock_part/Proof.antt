@@ -1,5 +1,5 @@
 -- `datetime::clock_part` meets its contract: the chain of the code is the definition's.
-use Rattle.datetime.specs.Datetime.{clockPart}
+use Rattle.datetime.specs.Datetime.{clock_part}
 use Rattle.answer.proofs.Laws.{then_is}
 use borrow.Author.Rules.{rules}
 use Rattle.datetime.proofs.clock_part.Statement.{statement}
@@ -60,7 +60,7 @@ then-requires-5 : tie.Need-then-requires-5
 then-requires-5 c κs = search rules
 
 returns : tie.Need-returns
-unfolding clockPart
+unfolding clock_part
 returns c =
     then_is c.then5.ensures
     (then_is c.before.before.then4.ensures

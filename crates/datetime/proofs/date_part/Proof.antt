@@ -1,5 +1,5 @@
 -- `datetime::date_part` meets its contract: the chain of the code is the definition's.
-use Rattle.datetime.specs.Date.{datePart}
+use Rattle.datetime.specs.Date.{date_part}
 use Rattle.answer.proofs.Laws.{then_is}
 use borrow.Author.Rules.{rules}
 use Rattle.datetime.proofs.date_part.Statement.{statement}
@@ -51,7 +51,7 @@ then-requires-4 : tie.Need-then-requires-4
 then-requires-4 c κs = search rules
 
 returns : tie.Need-returns
-unfolding datePart
+unfolding date_part
 returns c =
     then_is c.then4.ensures
     (then_is c.before.before.then3.ensures

@@ -4,19 +4,19 @@ use mathlib.Core.Path.{◌≡◌}
 use native.Mathlib.Omega.{arith}
 use lib.ListN.{length, drop}
 use borrow.Author.Rules.{rules}
-use Rattle.datetime.specs.Datetime.{digitRun, digitsEnd}
-use Rattle.datetime.proofs.Digits.{run_on, run-here, run_none}
+use Rattle.datetime.specs.Datetime.{digit_run, digits_end}
+use Rattle.datetime.proofs.Digits.{run_on, run_here, run_none}
 use Rattle.datetime.proofs.digits_end.Statement.{statement}
 use Rattle.datetime.proofs.digits_end.Tie as tie
 
 abbrev invariant-loop : tie.invariant-loop
-invariant-loop s from i₀ i = digitsEnd s from ≡ i + digitRun (drop i s)
+invariant-loop s from i₀ i = digits_end s from ≡ i + digit_run (drop i s)
 
 abbrev decreases-loop : tie.decreases-loop
 decreases-loop s from i₀ i = length s - i
 
 loop-holds : tie.Need-loop-init invariant-loop decreases-loop
-unfolding digitsEnd
+unfolding digits_end
 loop-holds c = omega arith
 
 shared-slice-read-allows : tie.Need-shared-slice-read-allows invariant-loop decreases-loop
@@ -39,7 +39,7 @@ loop-again c =
 returns : tie.Need-returns invariant-loop decreases-loop
 returns c =
     let k = c.before.before.before.before in
-    omega (arith, run-here k.before.before.args.s.now k.loop.i c.before.before.before.loop-test.true (rw (← c.before.allows.ensures) c.if1.false))
+    omega (arith, run_here k.before.before.args.s.now k.loop.i c.before.before.before.loop-test.true (rw (← c.before.allows.ensures) c.if1.false))
 
 returns-2 : tie.Need-returns-2 invariant-loop decreases-loop
 returns-2 c =

@@ -6,9 +6,9 @@ use native.Mathlib.Omega.{arith}
 use lib.Dec.{leb}
 use borrow.Author.Tests.{le-leb, lt-leb}
 use lib.ListN.{length}
-use Rattle.answer.specs.Steps.{◌andThen◌}
+use Rattle.answer.specs.Steps.{◌and_then◌}
 use Rattle.answer.proofs.Laws.{then_is}
-use Rattle.datetime.specs.Datetime.{offsetPart}
+use Rattle.datetime.specs.Datetime.{offset_part}
 use borrow.Author.Rules.{rules}
 use Rattle.datetime.proofs.offset_part.Statement.{statement}
 use Rattle.datetime.proofs.offset_part.Tie as tie
@@ -26,7 +26,7 @@ cast-t12 : tie.Need-overflow-cast-t12
 cast-t12 c = search rules
 
 returns : tie.Need-returns
-unfolding offsetPart ◌andThen◌
+unfolding offset_part ◌and_then◌
 returns c =
     let a = c.before.before.args in
     rw (lt-leb (a.i + 5) (length a.s.now) (omega arith))
@@ -78,7 +78,7 @@ enough : (c : tie.Else1) → leb (c.before.before.args.i + 5) (length c.before.b
 enough c = le-leb (c.before.before.args.i + 5) (length c.before.before.args.s.now) (omega arith)
 
 returns-2 : tie.Need-returns-2
-unfolding offsetPart ◌andThen◌
+unfolding offset_part ◌and_then◌
 returns-2 c =
     rw (enough c.before.before.before.before.before.before.before)
     (then_is c.then3.ensures

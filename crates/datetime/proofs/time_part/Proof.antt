@@ -1,6 +1,6 @@
 -- `datetime::time_part` meets its contract: the chain of the code is the definition's, with the zone's place as computed.
 use Rattle.answer.proofs.Laws.{then_is}
-use Rattle.datetime.specs.Datetime.{timePart}
+use Rattle.datetime.specs.Datetime.{time_part}
 use borrow.Author.Rules.{rules}
 use Rattle.datetime.proofs.time_part.Statement.{statement}
 use Rattle.datetime.proofs.time_part.Tie as tie
@@ -24,7 +24,7 @@ then-requires-2 : tie.Need-then-requires-2
 then-requires-2 c κs = search rules
 
 returns : tie.Need-returns
-unfolding timePart
+unfolding time_part
 returns c =
     rw (← c.before.before.zone-place.ensures)
     (then_is c.then2.ensures

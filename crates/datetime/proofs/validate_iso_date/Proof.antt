@@ -1,7 +1,7 @@
 -- `datetime::validate_iso_date` meets its contract: where the length stops the answer is its refusal, and where it passes that of the other steps.
-use Rattle.answer.specs.Steps.{◌andThen◌, ◌orAccept◌}
-use Rattle.answer.proofs.Laws.{accept-is}
-use Rattle.datetime.specs.Date.{dateAnswer}
+use Rattle.answer.specs.Steps.{◌and_then◌, ◌or_accept◌}
+use Rattle.answer.proofs.Laws.{accept_is}
+use Rattle.datetime.specs.Date.{date_answer}
 use borrow.Author.Rules.{rules}
 use Rattle.datetime.proofs.validate_iso_date.Statement.{statement}
 use Rattle.datetime.proofs.validate_iso_date.Tie as tie
@@ -22,13 +22,13 @@ enum-known-reason : tie.Need-enum-known-reason
 enum-known-reason c = search rules
 
 returns : tie.Need-returns
-unfolding dateAnswer ◌andThen◌
+unfolding date_answer ◌and_then◌
 returns c =
     rw (← c.before.before.before.before.length-is.ensures, c.before.before.enum_told.given.1)
-    (accept-is 0 c.or-accept.ensures c.before.date-part.ensures)
+    (accept_is 0 c.or-accept.ensures c.before.date-part.ensures)
 
 returns-2 : tie.Need-returns-2
-unfolding dateAnswer ◌andThen◌ ◌orAccept◌
+unfolding date_answer ◌and_then◌ ◌or_accept◌
 returns-2 c = rw (← c.before.before.before.length-is.ensures, c.before.reason.given.1)
 
 pub validate-iso-date-spec : {M : Type 1} → statement M

@@ -1,7 +1,7 @@
 -- `datetime::zone_part` meets its contract: each test that led to a return decides a test of the definition.
 use borrow.Author.Tests.{lt-ltb, le-ltb, ne_eqb}
-use Rattle.answer.specs.Steps.{◌andThen◌}
-use Rattle.datetime.specs.Datetime.{zonePart}
+use Rattle.answer.specs.Steps.{◌and_then◌}
+use Rattle.datetime.specs.Datetime.{zone_part}
 use borrow.Author.Rules.{rules}
 use Rattle.datetime.proofs.zone_part.Statement.{statement}
 use Rattle.datetime.proofs.zone_part.Tie as tie
@@ -16,7 +16,7 @@ cast-t12 : tie.Need-overflow-cast-t12
 cast-t12 c = search rules
 
 returns : tie.Need-returns
-unfolding zonePart ◌andThen◌
+unfolding zone_part ◌and_then◌
 returns c = rw (le-ltb _ _ c.if1.true)
 
 shared-slice-read-b : tie.Need-shared-slice-read-b
@@ -32,7 +32,7 @@ ends-at-requires : tie.Need-ends-at-requires
 ends-at-requires c κs = search rules
 
 returns-2 : tie.Need-returns-2
-unfolding zonePart ◌andThen◌
+unfolding zone_part ◌and_then◌
 returns-2 c = rw (lt-ltb _ _ c.before.before.before.if1.false, c.before.if2.true) c.ends_at.ensures
 
 sign-requires : tie.Need-sign-requires
@@ -45,7 +45,7 @@ offset-part-requires : tie.Need-offset-part-requires
 offset-part-requires c κs = search rules
 
 returns-3 : tie.Need-returns-3
-unfolding zonePart ◌andThen◌
+unfolding zone_part ◌and_then◌
 returns-3 c =
     let e = c.before.before.before in
     rw (lt-ltb _ _ e.before.before.if1.false, ne_eqb _ _ e.if2.false, ← c.before.before.sign.ensures, c.before.if3.true)
@@ -58,7 +58,7 @@ cast-t20 : tie.Need-overflow-cast-t20
 cast-t20 c = search rules
 
 returns-4 : tie.Need-returns-4
-unfolding zonePart ◌andThen◌
+unfolding zone_part ◌and_then◌
 returns-4 c =
     let e = c.before.before in
     rw (lt-ltb _ _ e.before.before.if1.false, ne_eqb _ _ e.if2.false, ← c.before.sign.ensures, c.if3.false)

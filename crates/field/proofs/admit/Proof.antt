@@ -1,6 +1,6 @@
 -- `field::admit` meets its contract: the second step is asked where the first passes.
 use borrow.Author.Rules.{rules}
-use Rattle.answer.specs.Steps.{◌andThen◌}
+use Rattle.answer.specs.Steps.{◌and_then◌}
 use Rattle.field.proofs.admit.Statement.{statement}
 use Rattle.field.proofs.admit.Tie as tie
 
@@ -17,12 +17,12 @@ enum-known-reason : tie.Need-enum-known-reason
 enum-known-reason c = search rules
 
 returns : tie.Need-returns
-unfolding ◌andThen◌
-returns c = let m = c.before.before.before in rw (← m.within-limit.ensures, c.before.enum_told.given.1) c.utf8-step.ensures
+unfolding ◌and_then◌
+returns c = let m = c.before.before.before in rw (← m.within_limit.ensures, c.before.enum_told.given.1) c.utf8-step.ensures
 
 returns-2 : tie.Need-returns-2
-unfolding ◌andThen◌
-returns-2 c = let m = c.before.before.before in rw (← m.within-limit.ensures, c.before.reason.given.1)
+unfolding ◌and_then◌
+returns-2 c = let m = c.before.before.before in rw (← m.within_limit.ensures, c.before.reason.given.1)
 
 pub admit-spec : {M : Type 1} → statement M
 admit-spec =

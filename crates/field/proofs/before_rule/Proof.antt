@@ -25,7 +25,7 @@ enum-told-4 : tie.Need-enum-told-4
 enum-told-4 c = search rules
 
 returns : tie.Need-returns
-returns c = rw c.before.enum_told.given.1 c.within-limit.ensures
+returns c = rw c.before.enum_told.given.1 c.within_limit.ensures
 
 returns-2 : tie.Need-returns-2
 returns-2 c = rw c.before.enum-told2.given.1 c.admit.ensures

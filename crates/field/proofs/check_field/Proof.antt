@@ -1,7 +1,7 @@
 -- `field::check_field` meets its contract: the way suits the kind, and so its order gives the definition's answer.
 use borrow.Author.Rules.{rules}
 use mathlib.Core.Path.{refl, ◌∙◌}
-use Rattle.answer.proofs.Laws.{then_is, accept-is}
+use Rattle.answer.proofs.Laws.{then_is, accept_is}
 use Rattle.field.proofs.Ways.{taken, refused}
 use Rattle.field.proofs.check_field.Statement.{statement}
 use Rattle.field.proofs.check_field.Tie as tie
@@ -50,7 +50,7 @@ returns-2 c =
     let q = a.before.before in
     let r = q.before.before in
     let b = r.before.before.before in
-    accept-is 0 c.or-accept.ensures (then_is t.then.ensures a.after-rule.ensures refl)
+    accept_is 0 c.or-accept.ensures (then_is t.then.ensures a.after-rule.ensures refl)
     ∙ taken b.before.Way-of.result _ _ b.before.Way-of.ensures b.before-rule.ensures r.before.enum_told.given.1 r.rule.ensures q.reason.given.1
 
 returns-3 : tie.Need-returns-3

@@ -1,7 +1,7 @@
 -- `field::rule` meets its contract: each arm is a line of the table of kinds, and the last one no line of it.
 use borrow.Author.Rules.{rules}
-use Rattle.field.specs.Field.{ruleOf}
-use Rattle.field.proofs.Ways.{no-rule}
+use Rattle.field.specs.Field.{rule_of}
+use Rattle.field.proofs.Ways.{no_rule}
 use Rattle.field.proofs.rule.Statement.{statement}
 use Rattle.field.proofs.rule.Tie as tie
 
@@ -36,47 +36,47 @@ parse-amount-cents-lenient-requires : tie.Need-parse-amount-cents-lenient-requir
 parse-amount-cents-lenient-requires c κs = search rules
 
 returns : tie.Need-returns
-unfolding ruleOf
+unfolding rule_of
 returns c = rw c.before.match.keys1 c.validate-iban.ensures
 
 returns-2 : tie.Need-returns-2
-unfolding ruleOf
+unfolding rule_of
 returns-2 c = rw c.before.match.keys2 c.validate-lei.ensures
 
 returns-3 : tie.Need-returns-3
-unfolding ruleOf
+unfolding rule_of
 returns-3 c = rw c.before.match.keys3 c.validate-bic.ensures
 
 returns-4 : tie.Need-returns-4
-unfolding ruleOf
+unfolding rule_of
 returns-4 c = rw c.before.match.keys4 c.validate-iso-date.ensures
 
 returns-5 : tie.Need-returns-5
-unfolding ruleOf
+unfolding rule_of
 returns-5 c = rw c.before.match.keys5 c.validate-iso-datetime.ensures
 
 returns-6 : tie.Need-returns-6
-unfolding ruleOf
+unfolding rule_of
 returns-6 c = rw c.before.match.keys6 c.validate-amount.ensures
 
 returns-7 : tie.Need-returns-7
-unfolding ruleOf
+unfolding rule_of
 returns-7 c = rw c.before.match.keys7 c.validate-country.ensures
 
 returns-8 : tie.Need-returns-8
-unfolding ruleOf
+unfolding rule_of
 returns-8 c = rw c.before.match.keys8 c.validate-currency.ensures
 
 returns-9 : tie.Need-returns-9
-unfolding ruleOf
+unfolding rule_of
 returns-9 c = rw c.before.match.keys9 c.parse-amount-cents.ensures
 
 returns-10 : tie.Need-returns-10
-unfolding ruleOf
+unfolding rule_of
 returns-10 c = rw c.before.match.keys10 c.parse-amount-cents-lenient.ensures
 
 returns-11 : tie.Need-returns-11
-returns-11 c = no-rule _ _ _ c.match.rest
+returns-11 c = no_rule _ _ _ c.match.rest
 
 pub rule-spec : {M : Type 1} → statement M
 rule-spec =

@@ -1,7 +1,7 @@
 -- `iban::class_steps` meets its contract: the chain is the definition's, step by step.
 use borrow.Author.Rules.{rules}
 use Rattle.answer.proofs.Laws.{then_is}
-use Rattle.iban.specs.Iban.{classSteps}
+use Rattle.iban.specs.Iban.{class_steps}
 use Rattle.iban.proofs.class_steps.Statement.{statement}
 use Rattle.iban.proofs.class_steps.Tie as tie
 
@@ -21,7 +21,7 @@ then-requires-2 : tie.Need-then-requires-2
 then-requires-2 c κs = search rules
 
 returns : tie.Need-returns
-unfolding classSteps
+unfolding class_steps
 returns c =
     then_is c.then2.ensures
     (then_is c.before.before.then.ensures c.before.before.before.before.first-wrong.ensures c.before.before.before.first-wrong2.ensures)

@@ -3,11 +3,11 @@ use Prim.Native.Nat.{◌-◌, ◌%◌, ◌<◌}
 use mathlib.Core.Path.{◌≡◌, sym, ◌∙◌, ap}
 use native.Mathlib.Omega.{arith}
 use lib.ListN.{length, get_or}
-use Rattle.utf8.specs.Space.{whiteSpace}
-use Rattle.utf8.proofs.Ascii.{ascii-below}
-use Rattle.utf8.proofs.Chars.{Stands, ascii-stands, chars-end}
+use Rattle.utf8.specs.Space.{white_space}
+use Rattle.utf8.proofs.Ascii.{ascii_below}
+use Rattle.utf8.proofs.Chars.{Stands, ascii_stands, chars-end}
 use Rattle.iban.proofs.Padded.{length-padded}
-use Rattle.iban.proofs.Blanks.{Dropping, starts, past-blank, past-char, ends}
+use Rattle.iban.proofs.Blanks.{Dropping, starts, past_blank, past_char, ends}
 use Rattle.iban.proofs.drop_ascii_blanks.Statement.{statement}
 use Rattle.iban.proofs.drop_ascii_blanks.Tie as tie
 
@@ -19,15 +19,15 @@ decreases-loop s text₀ count₀ at₀ text count at = length s - at
 
 -- the byte that was read, which is a character of its own
 small : (c : tie.After-shared-slice-known2 invariant-loop decreases-loop) → get_or c.before.before.before.before.before.args.s.now c.before.before.loop.at 0 < 128
-small c = ascii-below _ c.before.before.before.before.before.requires _ c.before.loop-test.true
+small c = ascii_below _ c.before.before.before.before.before.requires _ c.before.loop-test.true
 
 char : (c : tie.After-shared-slice-known2 invariant-loop decreases-loop)
     → Stands c.before.before.before.before.before.args.s.now c.before.before.loop.at (get_or c.before.before.before.before.before.args.s.now c.before.before.loop.at 0) 1
-char c = ascii-stands _ _ c.before.loop-test.true (small c)
+char c = ascii_stands _ _ c.before.loop-test.true (small c)
 
 white : (c : tie.After-is-white-space invariant-loop decreases-loop)
-    → c.is-white-space.result ≡ whiteSpace (get_or c.before.before.before.before.before.before.before.args.s.now c.before.before.before.before.loop.at 0)
-white c = c.is-white-space.ensures ∙ ap whiteSpace c.before.wide.ensures
+    → c.is-white-space.result ≡ white_space (get_or c.before.before.before.before.before.before.before.args.s.now c.before.before.before.before.loop.at 0)
+white c = c.is-white-space.ensures ∙ ap white_space c.before.wide.ensures
 
 zeros-requires : tie.Need-zeros-requires invariant-loop decreases-loop
 zeros-requires c κs = tt
@@ -53,7 +53,7 @@ loop-less c = omega (arith, char c.before.before.before)
 loop-again : tie.Need-loop-preserved invariant-loop decreases-loop
 loop-again c =
     let k = c.before.before.before.before.before in
-    past-blank _ _ _ _ k.loop.invariant _ _ (char c.before.before.before) (sym (white c.before) ∙ c.if1.true)
+    past_blank _ _ _ _ k.loop.invariant _ _ (char c.before.before.before) (sym (white c.before) ∙ c.if1.true)
 
 slice-aggregate-put : tie.Need-slice-aggregate-put invariant-loop decreases-loop
 slice-aggregate-put c =
@@ -82,7 +82,7 @@ loop-again-2 c =
     let b = get_or k.before.before.before.args.s.now k.loop.at 0 in
     let same : b % 256 ≡ b = omega (arith, small d) in
     rw c.before.put.ensures
-    (rw same at (past-char _ _ _ _ k.loop.invariant _ _ (char d) (sym (white c.before.before.before.before) ∙ c.before.before.before.if1.false) (small d)))
+    (rw same at (past_char _ _ _ _ k.loop.invariant _ _ (char d) (sym (white c.before.before.before.before) ∙ c.before.before.before.if1.false) (small d)))
 
 returns : tie.Need-returns invariant-loop decreases-loop
 returns c = ends _ _ _ _ c.before.loop.invariant (chars-end c.before.before.before.before.args.s.now c.before.loop.at c.loop-test.false) c.loop-test.false

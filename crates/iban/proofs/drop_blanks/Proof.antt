@@ -5,8 +5,8 @@ use native.Mathlib.Omega.{arith}
 use borrow.Author.Rules.{rules}
 use lib.ListN.{length}
 use Rattle.iban.proofs.Padded.{length-padded}
-use Rattle.iban.proofs.Blanks.{Dropping, starts, past-blank, past-char, beyond-ascii, no-character, ends}
-use Rattle.utf8.proofs.Chars.{Stands, stands, chars-bad, chars-end}
+use Rattle.iban.proofs.Blanks.{Dropping, starts, past_blank, past_char, beyond_ascii, no_character, ends}
+use Rattle.utf8.proofs.Chars.{Stands, stands, chars_bad, chars-end}
 use Rattle.iban.proofs.drop_blanks.Statement.{statement}
 use Rattle.iban.proofs.drop_blanks.Tie as tie
 
@@ -45,12 +45,12 @@ loop-less c = omega (arith, char c.before.before)
 loop-again : tie.Need-loop-preserved invariant-loop decreases-loop
 loop-again c =
     let k = c.before.before.before.before.before.before.before in
-    past-blank _ _ _ _ k.loop.invariant _ _ (char c.before.before) (sym c.before.is-white-space.ensures ∙ c.if1.true)
+    past_blank _ _ _ _ k.loop.invariant _ _ (char c.before.before) (sym c.before.is-white-space.ensures ∙ c.if1.true)
 
 returns : tie.Need-returns invariant-loop decreases-loop
 returns c =
     let k = c.before.before.before.before.before.before.before.before in
-    beyond-ascii _ _ _ _ k.loop.invariant _ _ (char c.before.before.before) (sym c.before.before.is-white-space.ensures ∙ c.before.if1.false) c.if2.true
+    beyond_ascii _ _ _ _ k.loop.invariant _ _ (char c.before.before.before) (sym c.before.before.is-white-space.ensures ∙ c.before.if1.false) c.if2.true
 
 slice-aggregate-put : tie.Need-slice-aggregate-put invariant-loop decreases-loop
 slice-aggregate-put c =
@@ -80,7 +80,7 @@ loop-again-2 c =
     let n = c.before.before.before.before.before.before in
     let k = n.before.before.before.before.before in
     rw c.before.put.ensures
-    (past-char _ _ _ _ k.loop.invariant _ _ (char n) (sym c.before.before.before.before.before.is-white-space.ensures ∙ c.before.before.before.before.if1.false) c.before.before.before.if2.false)
+    (past_char _ _ _ _ k.loop.invariant _ _ (char n) (sym c.before.before.before.before.before.is-white-space.ensures ∙ c.before.before.before.before.if1.false) c.before.before.before.if2.false)
 
 enum_told : tie.Need-enum-told invariant-loop decreases-loop
 enum_told c = c.match.keys2
@@ -88,7 +88,7 @@ enum_told c = c.match.keys2
 returns-2 : tie.Need-returns-2 invariant-loop decreases-loop
 returns-2 c =
     let d = c.before.before.before in
-    no-character _ _ _ _ d.before.loop.invariant (chars-bad _ (sym c.before.before.decode.ensures ∙ c.enum_told.given.1)) d.loop-test.true
+    no_character _ _ _ _ d.before.loop.invariant (chars_bad _ (sym c.before.before.decode.ensures ∙ c.enum_told.given.1)) d.loop-test.true
 
 returns-3 : tie.Need-returns-3 invariant-loop decreases-loop
 returns-3 c = ends _ _ _ _ c.before.loop.invariant (chars-end c.before.before.before.before.args.s.now c.before.loop.at c.loop-test.false) c.loop-test.false

@@ -2,7 +2,7 @@
 use mathlib.Core.Path.{sym, ◌∙◌}
 use native.Mathlib.Omega.{arith}
 use borrow.Author.Rules.{rules}
-use Rattle.iban.proofs.Formats.{Whole, whole, stopped, format-whole, format-wrong}
+use Rattle.iban.proofs.Formats.{Whole, whole, stopped, format_whole, format_wrong}
 use Rattle.iban.proofs.electronic_format.Statement.{statement}
 use Rattle.iban.proofs.electronic_format.Tie as tie
 
@@ -56,7 +56,7 @@ returns : tie.Need-returns
 returns c =
     let d = c.before.before in
     let e = d.before.before.before in
-    format-whole _ _ e.before.before.before.before.before.without-blanks.ensures (passed e) _ d.class-steps.ensures c.enum-told2.given.1
+    format_whole _ _ e.before.before.before.before.before.without-blanks.ensures (passed e) _ d.class-steps.ensures c.enum-told2.given.1
 
 returns-2 : tie.Need-returns-2
 returns-2 c =
@@ -65,7 +65,7 @@ returns-2 c =
     let e = d.before.before.before in
     c.refused.ensures
     ∙ rw c.before.reason-in.ensures
-    (format-wrong _ _ e.before.before.before.before.before.without-blanks.ensures (passed e) _ d.class-steps.ensures _ _ n.before.reason.given.1)
+    (format_wrong _ _ e.before.before.before.before.before.without-blanks.ensures (passed e) _ d.class-steps.ensures _ _ n.before.reason.given.1)
 
 returns-3 : tie.Need-returns-3
 returns-3 c =

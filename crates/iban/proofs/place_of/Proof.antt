@@ -3,14 +3,14 @@ use Prim.Native.Nat.{◌-◌, ◌≤◌}
 use mathlib.Core.Path.{◌≡◌, sym, ◌∙◌, ap}
 use native.Mathlib.Omega.{arith}
 use lib.ListN.{length}
-use Rattle.utf8.proofs.Chars.{Stands, stands, chars-bad, chars-end}
+use Rattle.utf8.proofs.Chars.{Stands, stands, chars_bad, chars-end}
 use Rattle.iban.specs.Electronic.{electronic, place_in}
-use Rattle.iban.proofs.Electronics.{electronicAt, electronic-start, place-blank, place_here, place-next, place_none}
+use Rattle.iban.proofs.Electronics.{electronic_at, electronic-start, place_blank, place_here, place-next, place_none}
 use Rattle.iban.proofs.place_of.Statement.{statement}
 use Rattle.iban.proofs.place_of.Tie as tie
 
 abbrev invariant-loop : tie.invariant-loop
-invariant-loop s k ahead₀ at₀ ahead at = (at ≤ length s) × (place_in k (electronic s) ≡ place_in ahead (electronicAt s at))
+invariant-loop s k ahead₀ at₀ ahead at = (at ≤ length s) × (place_in k (electronic s) ≡ place_in ahead (electronic_at s at))
 
 abbrev decreases-loop : tie.decreases-loop
 decreases-loop s k ahead₀ at₀ ahead at = length s - at
@@ -41,7 +41,7 @@ loop-less c = omega (arith, char c.before.before)
 loop-again : tie.Need-loop-preserved invariant-loop decreases-loop
 loop-again c =
     let k = c.before.before.before.before.before.before.before in
-    ((char c.before.before).inside, k.loop.invariant.1 ∙ place-blank _ _ _ _ (char c.before.before) k.loop.ahead (sym c.before.is-white-space.ensures ∙ c.if1.true))
+    ((char c.before.before).inside, k.loop.invariant.1 ∙ place_blank _ _ _ _ (char c.before.before) k.loop.ahead (sym c.before.is-white-space.ensures ∙ c.if1.true))
 
 returns : tie.Need-returns invariant-loop decreases-loop
 returns c =
@@ -70,7 +70,7 @@ enum_told c = c.match.keys2
 returns-2 : tie.Need-returns-2 invariant-loop decreases-loop
 returns-2 c =
     let k = c.before.before.before.before in
-    sym (k.loop.invariant.1 ∙ place_none k.loop.ahead _ _ (chars-bad _ (sym c.before.before.decode.ensures ∙ c.enum_told.given.1)))
+    sym (k.loop.invariant.1 ∙ place_none k.loop.ahead _ _ (chars_bad _ (sym c.before.before.decode.ensures ∙ c.enum_told.given.1)))
 
 returns-3 : tie.Need-returns-3 invariant-loop decreases-loop
 returns-3 c =

@@ -3,10 +3,10 @@ use Prim.Native.Nat.{ℕ}
 use mathlib.Core.Path.{sym, ◌∙◌, ap}
 use native.Mathlib.Omega.{arith}
 use borrow.Author.Rules.{rules}
-use Rattle.answer.proofs.Laws.{accept-is}
-use Rattle.checkdigit.specs.Sum.{ibanRemainder}
-use Rattle.checkdigit.specs.RemainderStep.{remainderStep}
-use Rattle.iban.proofs.Formats.{room, text-is, sum-answers, step-answers}
+use Rattle.answer.proofs.Laws.{accept_is}
+use Rattle.checkdigit.specs.Sum.{iban_remainder}
+use Rattle.checkdigit.specs.RemainderStep.{remainder_step}
+use Rattle.iban.proofs.Formats.{room, text-is, sum_answers, step_answers}
 use Rattle.iban.proofs.validate_iban.Statement.{statement}
 use Rattle.iban.proofs.validate_iban.Tie as tie
 
@@ -44,14 +44,14 @@ returns c =
     let d = c.before.before.before.before.before in
     let h = d.before.before.before in
     let e = d.enum_told.given.1 in
-    let r = c.before.before.iban-remainder.ensures.is ∙ ap ibanRemainder (text-is _ _ h.electronic-format.ensures e) in
-    accept-is 1 c.or-accept.ensures (c.before.remainder-is-one.ensures ∙ ap (λ (n : ℕ). remainderStep n 106) r)
-    ∙ sym (sum-answers _ _ h.electronic-format.ensures e)
+    let r = c.before.before.iban-remainder.ensures.is ∙ ap iban_remainder (text-is _ _ h.electronic-format.ensures e) in
+    accept_is 1 c.or-accept.ensures (c.before.remainder-is-one.ensures ∙ ap (λ (n : ℕ). remainder_step n 106) r)
+    ∙ sym (sum_answers _ _ h.electronic-format.ensures e)
 
 returns-2 : tie.Need-returns-2
 returns-2 c =
     let h = c.before.before.before.before in
-    step-answers _ _ h.electronic-format.ensures _ _ c.before.step.given.1
+    step_answers _ _ h.electronic-format.ensures _ _ c.before.step.given.1
 
 pub validate-iban-spec : {M : Type 1} → statement M
 validate-iban-spec =

@@ -1,7 +1,7 @@
 -- `lei::characters` meets its contract: the chain is the definition's, step by step.
 use borrow.Author.Rules.{rules}
 use Rattle.answer.proofs.Laws.{then_is}
-use Rattle.lei.specs.Lei.{leiCharacters}
+use Rattle.lei.specs.Lei.{lei_characters}
 use Rattle.lei.proofs.characters.Statement.{statement}
 use Rattle.lei.proofs.characters.Tie as tie
 
@@ -21,7 +21,7 @@ then-requires-2 : tie.Need-then-requires-2
 then-requires-2 c κs = search rules
 
 returns : tie.Need-returns
-unfolding leiCharacters
+unfolding lei_characters
 returns c =
     then_is c.then2.ensures
     (then_is c.before.before.then.ensures c.before.before.before.before.length-is.ensures c.before.before.before.first-wrong.ensures)

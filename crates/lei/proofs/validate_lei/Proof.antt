@@ -2,10 +2,10 @@
 use mathlib.Core.Path.{◌∙◌, ap}
 use Prim.Native.Nat.{ℕ}
 use borrow.Author.Rules.{rules}
-use Rattle.answer.specs.Steps.{◌andThen◌, ◌orAccept◌}
-use Rattle.answer.proofs.Laws.{accept-is}
-use Rattle.checkdigit.specs.RemainderStep.{remainderStep}
-use Rattle.lei.specs.Lei.{leiAnswer}
+use Rattle.answer.specs.Steps.{◌and_then◌, ◌or_accept◌}
+use Rattle.answer.proofs.Laws.{accept_is}
+use Rattle.checkdigit.specs.RemainderStep.{remainder_step}
+use Rattle.lei.specs.Lei.{lei_answer}
 use Rattle.lei.proofs.validate_lei.Statement.{statement}
 use Rattle.lei.proofs.validate_lei.Tie as tie
 
@@ -28,14 +28,14 @@ enum-known-reason : tie.Need-enum-known-reason
 enum-known-reason c = search rules
 
 returns : tie.Need-returns
-unfolding leiAnswer ◌andThen◌
+unfolding lei_answer ◌and_then◌
 returns c =
     let w = c.before.before.before in
     rw (← w.before.before.characters.ensures, w.enum_told.given.1)
-    (accept-is 1 c.or-accept.ensures (c.before.remainder-is-one.ensures ∙ ap (λ (n : ℕ). remainderStep n 204) c.before.before.remainder.ensures.is))
+    (accept_is 1 c.or-accept.ensures (c.before.remainder-is-one.ensures ∙ ap (λ (n : ℕ). remainder_step n 204) c.before.before.remainder.ensures.is))
 
 returns-2 : tie.Need-returns-2
-unfolding leiAnswer ◌andThen◌ ◌orAccept◌
+unfolding lei_answer ◌and_then◌ ◌or_accept◌
 returns-2 c = rw (← c.before.before.before.characters.ensures, c.before.reason.given.1)
 
 pub validate-lei-spec : {M : Type 1} → statement M

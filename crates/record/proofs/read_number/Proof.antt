@@ -5,13 +5,13 @@ use mathlib.Core.Logic.{⊎_elim}
 use native.Mathlib.Omega.{arith}
 use lib.ListN.{length, get_or, take, drop, length-take, length-drop, drop_of_length-le}
 use lib.Seq.{get_or-take}
-use Rattle.record.specs.Number.{fromBytes}
+use Rattle.record.specs.Number.{from_bytes}
 use Rattle.record.proofs.Numbers.{bytes_take, bytes_drop, number-within, read_more}
 use Rattle.record.proofs.read_number.Statement.{statement}
 use Rattle.record.proofs.read_number.Tie as tie
 
 abbrev invariant-loop : tie.invariant-loop
-invariant-loop b x₀ i₀ x i = (i ≤ length b) × (i ≤ 8) × (x ≡ fromBytes (drop i (take 8 b)))
+invariant-loop b x₀ i₀ x i = (i ≤ length b) × (i ≤ 8) × (x ≡ from_bytes (drop i (take 8 b)))
 
 abbrev decreases-loop : tie.decreases-loop
 decreases-loop b x₀ i₀ x i = i

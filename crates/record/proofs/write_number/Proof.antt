@@ -2,13 +2,13 @@
 use Prim.Native.Nat.{◌-◌, ◌%◌, ◌≤◌}
 use mathlib.Core.Path.{◌≡◌, refl, sym, ◌∙◌}
 use mathlib.Core.List.{◌++◌, append-nil}
-use native.Mathlib.Nat.{sub-zero}
+use native.Mathlib.Nat.{sub_zero}
 use native.Mathlib.Omega.{arith}
 use borrow.Author.Rules.{rules}
 use lib.ListN.{length, take, length-set}
 use lib.Seq.{take_all}
 use Rattle.record.specs.Number.{to_bytes}
-use Rattle.record.proofs.Numbers.{write-more}
+use Rattle.record.proofs.Numbers.{write_more}
 use Rattle.record.proofs.write_number.Statement.{statement}
 use Rattle.record.proofs.write_number.Tie as tie
 
@@ -19,7 +19,7 @@ abbrev decreases-loop : tie.decreases-loop
 decreases-loop b₀ x rest₀ i₀ b rest i = length b - i
 
 loop-holds : tie.Need-loop-init invariant-loop decreases-loop
-loop-holds c = (omega arith, refl, rw sub-zero)
+loop-holds c = (omega arith, refl, rw sub_zero)
 
 cast-b : tie.Need-overflow-cast-b invariant-loop decreases-loop
 cast-b c = omega arith
@@ -39,7 +39,7 @@ loop-again c =
     let l = k.loop in
     let n = length k.before.args.b.now in
     let s = length-set l.b l.i (l.rest % 256) in
-    (omega arith, omega arith, l.invariant.2 ∙ write-more l.b n l.i l.rest l.invariant.1 (omega arith))
+    (omega arith, omega arith, l.invariant.2 ∙ write_more l.b n l.i l.rest l.invariant.1 (omega arith))
 
 same_length : tie.Need-same-length invariant-loop decreases-loop
 same_length c = search rules

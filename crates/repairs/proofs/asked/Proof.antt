@@ -1,5 +1,5 @@
 -- `repairs::asked` meets its contract: each request by its own function.
-use Rattle.repairs.specs.Inner.{askedBytes}
+use Rattle.repairs.specs.Inner.{asked_bytes}
 use borrow.Author.Rules.{rules}
 use Rattle.repairs.proofs.asked.Statement.{statement}
 use Rattle.repairs.proofs.asked.Tie as tie
@@ -23,15 +23,15 @@ filled-requires : tie.Need-filled-requires
 filled-requires c κs = search rules
 
 returns : tie.Need-returns
-unfolding askedBytes
+unfolding asked_bytes
 returns c = rw c.before.before.request.given.1 c.put.ensures
 
 returns-2 : tie.Need-returns-2
-unfolding askedBytes
+unfolding asked_bytes
 returns-2 c = rw c.before.before.request2.given.1 c.swap.ensures
 
 returns-3 : tie.Need-returns-3
-unfolding askedBytes
+unfolding asked_bytes
 returns-3 c = rw c.before.enum_told.given.1 c.filled.ensures
 
 pub asked-spec : {M : Type 1} → statement M

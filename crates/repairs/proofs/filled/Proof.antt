@@ -1,5 +1,5 @@
 -- `repairs::filled` meets its contract: the digits that the remainder with digits 00 asks for.
-use Rattle.repairs.specs.Inner.{filledBytes}
+use Rattle.repairs.specs.Inner.{filled_bytes}
 use borrow.Author.Rules.{rules}
 use Rattle.repairs.proofs.filled.Statement.{statement}
 use Rattle.repairs.proofs.filled.Tie as tie
@@ -26,7 +26,7 @@ stamp-requires-2 : tie.Need-stamp-requires-2
 stamp-requires-2 c κs = search rules
 
 returns : tie.Need-returns
-unfolding filledBytes
+unfolding filled_bytes
 returns c =
     let d = c.before in
     let f = d.before.before in

@@ -1,6 +1,6 @@
 -- `repairs::given_steps` meets its contract: the chain of each request.
 use Rattle.answer.proofs.Laws.{then_is}
-use Rattle.repairs.specs.Repairs.{givenSteps}
+use Rattle.repairs.specs.Repairs.{given_steps}
 use borrow.Author.Rules.{rules}
 use Rattle.repairs.proofs.given_steps.Statement.{statement}
 use Rattle.repairs.proofs.given_steps.Tie as tie
@@ -33,19 +33,19 @@ enum_told : tie.Need-enum-told
 enum_told c = search rules
 
 returns : tie.Need-returns
-unfolding givenSteps
+unfolding given_steps
 returns c =
     let p = c.before.before in
     rw p.before.before.request.given.1 (then_is c.then.ensures p.place-step.ensures c.before.byte_step.ensures)
 
 returns-2 : tie.Need-returns-2
-unfolding givenSteps
+unfolding given_steps
 returns-2 c =
     let p = c.before.before in
     rw p.before.before.request2.given.1 (then_is c.then2.ensures p.place-step2.ensures c.before.place-step3.ensures)
 
 returns-3 : tie.Need-returns-3
-unfolding givenSteps
+unfolding given_steps
 returns-3 c = rw c.enum_told.given.1
 
 pub given-steps-spec : {M : Type 1} → statement M

@@ -1,6 +1,6 @@
 -- `repairs::renewed` meets its contract: the load where the text's step passes.
 use mathlib.Core.Path.{sym, ◌∙◌}
-use Rattle.repairs.specs.Inner.{renewedBy}
+use Rattle.repairs.specs.Inner.{renewed_by}
 use borrow.Author.Rules.{rules}
 use Rattle.repairs.proofs.renewed.Statement.{statement}
 use Rattle.repairs.proofs.renewed.Tie as tie
@@ -21,13 +21,13 @@ refused-requires : tie.Need-refused-requires
 refused-requires c κs = search rules
 
 returns : tie.Need-returns
-unfolding renewedBy
+unfolding renewed_by
 returns c =
     let e = c.before in
     rw (sym e.before.before.text-step.ensures ∙ e.enum_told.given.1) c.load.ensures
 
 returns-2 : tie.Need-returns-2
-unfolding renewedBy
+unfolding renewed_by
 returns-2 c =
     let e = c.before.before in
     rw (sym e.before.before.text-step.ensures ∙ e.reason.given.1) c.refused.ensures

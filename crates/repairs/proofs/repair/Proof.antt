@@ -1,6 +1,6 @@
 -- `repairs::repair` meets its contract: the refusals before the text, and the repair to the text that was asked for.
 use mathlib.Core.Path.{◌∙◌, sym}
-use Rattle.repairs.proofs.Repairs.{repairs, repair-stops}
+use Rattle.repairs.proofs.Repairs.{repairs, repair_stops}
 use borrow.Author.Rules.{rules}
 use Rattle.repairs.proofs.repair.Statement.{statement}
 use Rattle.repairs.proofs.repair.Tie as tie
@@ -39,7 +39,7 @@ returns c =
 returns-2 : tie.Need-returns-2
 returns-2 c =
     let r = c.before.before in
-    c.refused.ensures ∙ repair-stops _ _ _ _ (sym r.before.before.first-steps.ensures ∙ r.reason.given.1)
+    c.refused.ensures ∙ repair_stops _ _ _ _ (sym r.before.before.first-steps.ensures ∙ r.reason.given.1)
 
 pub repair-spec : {M : Type 1} → statement M
 repair-spec =

@@ -2,7 +2,7 @@
 use mathlib.Core.Path.{ap, sym, ◌∙◌}
 use Rattle.answer.specs.declared.Numbers.{Numbers}
 use Rattle.answer.specs.declared.Step.TheVariants.{Pass, Stop}
-use Rattle.repairs.proofs.Repairs.{text-step-is}
+use Rattle.repairs.proofs.Repairs.{text_step_is}
 use borrow.Author.Rules.{rules}
 use Rattle.repairs.proofs.text_step.Statement.{statement}
 use Rattle.repairs.proofs.text_step.Tie as tie
@@ -20,12 +20,12 @@ numbers-requires : tie.Need-numbers-requires
 numbers-requires c κs = search rules
 
 returns : tie.Need-returns
-returns c = text-step-is _ _ Pass (sym c.before.before.characters.ensures ∙ c.enum_told.given.1)
+returns c = text_step_is _ _ Pass (sym c.before.before.characters.ensures ∙ c.enum_told.given.1)
 
 returns-2 : tie.Need-returns-2
 returns-2 c =
     let s = c.before.before in
-    rw (ap (λ (x : Numbers). x.place) c.numbers.ensures) (text-step-is _ _ (Stop _ _) (sym s.before.before.characters.ensures ∙ s.reason.given.1))
+    rw (ap (λ (x : Numbers). x.place) c.numbers.ensures) (text_step_is _ _ (Stop _ _) (sym s.before.before.characters.ensures ∙ s.reason.given.1))
 
 pub text-step-spec : {M : Type 1} → statement M
 text-step-spec =

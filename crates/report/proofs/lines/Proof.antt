@@ -2,7 +2,7 @@
 use Prim.Native.Nat.{◌-◌}
 use lib.ListN.{length}
 use borrow.Author.Rules.{rules}
-use Rattle.report.proofs.Texts.{Lining, start-lines, no_more, no_room, line-requires, line-again}
+use Rattle.report.proofs.Texts.{Lining, start_lines, no_more, no_room, line-requires, line_again}
 use Rattle.report.proofs.lines.Statement.{statement}
 use Rattle.report.proofs.lines.Tie as tie
 
@@ -13,7 +13,7 @@ abbrev decreases-loop : tie.decreases-loop
 decreases-loop verdicts out₀ k₀ i₀ at₀ out k i at = length verdicts - i
 
 loop-holds : tie.Need-loop-init invariant-loop decreases-loop
-loop-holds c = start-lines _ _
+loop-holds c = start_lines _ _
 
 sub-if1 : tie.Need-overflow-sub-if1 invariant-loop decreases-loop
 sub-if1 c = search rules
@@ -62,7 +62,7 @@ loop-again c =
     let p = c.before.before in
     let e = p.before.before.before in
     let l = e.before.before in
-    line-again _ _ _ _ _ _ l.loop.invariant (λ i. (l.before.before.shared-slice-known.given i).fits) e.before.if1.false e.if2.false _ _ p.put-line.auto.0 p.put-line.ensures
+    line_again _ _ _ _ _ _ l.loop.invariant (λ i. (l.before.before.shared-slice-known.given i).fits) e.before.if1.false e.if2.false _ _ p.put-line.auto.0 p.put-line.ensures
 
 pub lines-spec : {M : Type 1} → statement M
 lines-spec =

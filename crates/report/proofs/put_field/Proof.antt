@@ -2,7 +2,7 @@
 use native.Mathlib.Omega.{arith}
 use lib.ListN.{length-set}
 use Rattle.report.proofs.Digits.{one}
-use Rattle.report.proofs.Puts.{length-field, field-one, field-inside, field-more}
+use Rattle.report.proofs.Puts.{length-field, field_one, field-inside, field-more}
 use borrow.Author.Rules.{rules}
 use Rattle.report.proofs.put_field.Statement.{statement}
 use Rattle.report.proofs.put_field.Tie as tie
@@ -31,7 +31,7 @@ same_length : tie.Need-same-length
 same_length c = search rules
 
 returns : tie.Need-returns
-returns c = field-one _ _ _ _ c.before.before.requires c.if1.true
+returns c = field_one _ _ _ _ c.before.before.requires c.if1.true
 
 width-requires : tie.Need-width-requires
 width-requires c κs = search rules

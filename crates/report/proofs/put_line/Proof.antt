@@ -1,5 +1,5 @@
 -- `report::put_line` meets its contract: its row has the numbers that the verdict says.
-use Rattle.report.proofs.Texts.{line-is}
+use Rattle.report.proofs.Texts.{line_is}
 use borrow.Author.Rules.{rules}
 use Rattle.report.proofs.put_line.Statement.{statement}
 use Rattle.report.proofs.put_line.Tie as tie
@@ -19,7 +19,7 @@ cast-put-row-3 c = search rules
 put-row-requires : tie.Need-put-row-requires
 put-row-requires c κs =
     let d = c.before.before.before.before in
-    rw (line-is d.read-verdict.result _ d.read-verdict.ensures) d.before.before.before.requires
+    rw (line_is d.read-verdict.result _ d.read-verdict.ensures) d.before.before.before.requires
 
 same_length : tie.Need-same-length
 same_length c = search rules
@@ -28,7 +28,7 @@ returns : tie.Need-returns
 returns c =
     let r = c.before.before in
     let d = r.before.before.before.before.before in
-    rw (line-is d.read-verdict.result _ d.read-verdict.ensures) at r.put-row.ensures
+    rw (line_is d.read-verdict.result _ d.read-verdict.ensures) at r.put-row.ensures
 
 pub put-line-spec : {M : Type 1} → statement M
 put-line-spec =

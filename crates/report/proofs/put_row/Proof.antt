@@ -1,7 +1,7 @@
 -- `report::put_row` meets its contract: its fields are written one after the other, and what is left of the row has room each time.
 use mathlib.Core.List.{[], ◌∷◌}
-use Rattle.report.specs.Text.{numbersLine}
-use Rattle.report.proofs.Puts.{Room, row_first, row-rest, row_last, row-then}
+use Rattle.report.specs.Text.{numbers_line}
+use Rattle.report.proofs.Puts.{Room, row_first, row_rest, row_last, row-then}
 use borrow.Author.Rules.{rules}
 use Rattle.report.proofs.put_row.Statement.{statement}
 use Rattle.report.proofs.put_row.Tie as tie
@@ -16,13 +16,13 @@ put-field-requires c κs = row_first (begins c.before.before)
 put-field-requires-2 : tie.Need-put-field-requires-2
 put-field-requires-2 c κs =
     let p = c.before.before.before in
-    row_first (row-rest (begins p.before.before.before) p.put-field.ensures)
+    row_first (row_rest (begins p.before.before.before) p.put-field.ensures)
 
 put-field-requires-3 : tie.Need-put-field-requires-3
 put-field-requires-3 c κs =
     let q = c.before.before.before in
     let p = q.before.before.before.before in
-    row_first (row-rest (row-rest (begins p.before.before.before) p.put-field.ensures) q.put-field2.ensures)
+    row_first (row_rest (row_rest (begins p.before.before.before) p.put-field.ensures) q.put-field2.ensures)
 
 put-field-requires-4 : tie.Need-put-field-requires-4
 put-field-requires-4 c κs =
@@ -30,7 +30,7 @@ put-field-requires-4 c κs =
     let q = r.before.before.before.before in
     let p = q.before.before.before.before in
     row_first
-    (row-rest (row-rest (row-rest (begins p.before.before.before) p.put-field.ensures) q.put-field2.ensures)
+    (row_rest (row_rest (row_rest (begins p.before.before.before) p.put-field.ensures) q.put-field2.ensures)
     r.put-field3.ensures)
 
 put-field-requires-5 : tie.Need-put-field-requires-5
@@ -40,15 +40,15 @@ put-field-requires-5 c κs =
     let q = r.before.before.before.before in
     let p = q.before.before.before.before in
     row_last
-    (row-rest
-    (row-rest (row-rest (row-rest (begins p.before.before.before) p.put-field.ensures) q.put-field2.ensures)
+    (row_rest
+    (row_rest (row_rest (row_rest (begins p.before.before.before) p.put-field.ensures) q.put-field2.ensures)
     r.put-field3.ensures) s.put-field4.ensures)
 
 same_length : tie.Need-same-length
 same_length c = search rules
 
 returns : tie.Need-returns
-unfolding numbersLine
+unfolding numbers_line
 returns c =
     let t = c.before.before in
     let s = t.before.before.before.before in
@@ -56,9 +56,9 @@ returns c =
     let q = r.before.before.before.before in
     let p = q.before.before.before.before in
     let h = begins p.before.before.before in
-    let i = row-rest h p.put-field.ensures in
-    let j = row-rest i q.put-field2.ensures in
-    let k = row-rest j r.put-field3.ensures in
+    let i = row_rest h p.put-field.ensures in
+    let j = row_rest i q.put-field2.ensures in
+    let k = row_rest j r.put-field3.ensures in
     row-then h p.put-field.ensures
     (row-then i q.put-field2.ensures (row-then j r.put-field3.ensures (row-then k s.put-field4.ensures t.put-field5.ensures)))
 

@@ -3,7 +3,7 @@ use mathlib.Core.Path.{sym, ◌∙◌}
 use lib.ListN.{length-set}
 use native.Mathlib.Omega.{arith}
 use borrow.Author.Rules.{rules}
-use Rattle.report.proofs.Digits.{Spelling, spell-start, spell-inside, spell-on, spell-end}
+use Rattle.report.proofs.Digits.{Spelling, spell_start, spell_inside, spell_on, spell_end}
 use Rattle.report.proofs.spell.Statement.{statement}
 use Rattle.report.proofs.spell.Tie as tie
 
@@ -14,10 +14,10 @@ abbrev decreases-loop : tie.decreases-loop
 decreases-loop d₀ x i₀ rest₀ d i rest = rest
 
 loop-holds : tie.Need-loop-init invariant-loop decreases-loop
-loop-holds c = spell-start _ _ c.requires
+loop-holds c = spell_start _ _ c.requires
 
 sub-i : tie.Need-overflow-sub-i invariant-loop decreases-loop
-sub-i c = omega (arith, spell-inside _ _ _ _ c.before.loop.invariant)
+sub-i c = omega (arith, spell_inside _ _ _ _ c.before.loop.invariant)
 
 add-d : tie.Need-overflow-add-d invariant-loop decreases-loop
 add-d c = search rules
@@ -26,13 +26,13 @@ cast-d : tie.Need-overflow-cast-d invariant-loop decreases-loop
 cast-d c = search rules
 
 slice-write-d : tie.Need-slice-write-d invariant-loop decreases-loop
-slice-write-d c = omega (arith, spell-inside _ _ _ _ c.before.loop.invariant)
+slice-write-d c = omega (arith, spell_inside _ _ _ _ c.before.loop.invariant)
 
 loop-less : tie.Need-loop-smaller invariant-loop decreases-loop
 loop-less c = omega arith
 
 loop-again : tie.Need-loop-preserved invariant-loop decreases-loop
-loop-again c = spell-on _ _ _ _ c.before.loop.invariant c.loop-test.true
+loop-again c = spell_on _ _ _ _ c.before.loop.invariant c.loop-test.true
 
 add-d-2 : tie.Need-overflow-add-d-2 invariant-loop decreases-loop
 add-d-2 c = search rules
@@ -41,13 +41,13 @@ cast-d-2 : tie.Need-overflow-cast-d-2 invariant-loop decreases-loop
 cast-d-2 c = search rules
 
 slice-write-d-2 : tie.Need-slice-write-d-2 invariant-loop decreases-loop
-slice-write-d-2 c = omega (arith, spell-inside _ _ _ _ c.before.loop.invariant)
+slice-write-d-2 c = omega (arith, spell_inside _ _ _ _ c.before.loop.invariant)
 
 same_length : tie.Need-same-length invariant-loop decreases-loop
 same_length c = simp length-set (c.before.loop.invariant.size ∙ sym c.before.before.requires)
 
 returns : tie.Need-returns invariant-loop decreases-loop
-returns c = spell-end _ _ _ _ c.before.loop.invariant c.loop-test.false
+returns c = spell_end _ _ _ _ c.before.loop.invariant c.loop-test.false
 
 pub spell-spec : {M : Type 1} → statement M
 spell-spec =

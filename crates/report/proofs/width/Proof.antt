@@ -3,13 +3,13 @@ use Prim.Native.Nat.{◌+◌}
 use mathlib.Core.Path.{◌≡◌}
 use lib.ListN.{length}
 use native.Mathlib.Omega.{arith}
-use Rattle.report.specs.Digits.{decimalDigits}
+use Rattle.report.specs.Digits.{decimal_digits}
 use Rattle.report.proofs.Digits.{one, one_more, most}
 use Rattle.report.proofs.width.Statement.{statement}
 use Rattle.report.proofs.width.Tie as tie
 
 abbrev invariant-loop : tie.invariant-loop
-invariant-loop x n₀ rest₀ n rest = n + length (decimalDigits rest) ≡ length (decimalDigits x) + 1
+invariant-loop x n₀ rest₀ n rest = n + length (decimal_digits rest) ≡ length (decimal_digits x) + 1
 
 abbrev decreases-loop : tie.decreases-loop
 decreases-loop x n₀ rest₀ n rest = rest

@@ -1,7 +1,7 @@
 -- `front` meets its contract: what is passed is the bytes from `at` on, and the rest is as it was. The measure is the bytes left.
 use borrow.Author.Rules.{rules}
 use Prim.Native.Nat.{◌-◌}
-use Rattle.service.proofs.Laws.{Moving, move_start, move-on, move-done}
+use Rattle.service.proofs.Laws.{Moving, move_start, move_on, move_done}
 use Rattle.service.proofs.front.Statement.{statement}
 use Rattle.service.proofs.front.Tie as tie
 
@@ -30,13 +30,13 @@ loop-less : tie.Need-loop-smaller invariant-loop decreases-loop
 loop-less c = search rules
 
 loop-again : tie.Need-loop-preserved invariant-loop decreases-loop
-loop-again c = move-on _ _ _ _ _ c.before.before.before.requires c.before.before.loop.invariant c.before.loop-test.true
+loop-again c = move_on _ _ _ _ _ c.before.before.before.requires c.before.before.loop.invariant c.before.loop-test.true
 
 same_length : tie.Need-same-length invariant-loop decreases-loop
 same_length c = search rules
 
 returns : tie.Need-returns invariant-loop decreases-loop
-returns c = move-done _ _ _ _ _ c.before.loop.invariant c.loop-test.false
+returns c = move_done _ _ _ _ _ c.before.loop.invariant c.loop-test.false
 
 pub front-spec : {M : Type 1} → statement M
 front-spec =

@@ -1,5 +1,5 @@
 -- `read_more` meets its contract: what is held stands at the front, and the bytes that come in stand after it.
-use Rattle.service.proofs.Laws.{more-failed, more-ended, more-came, moved_more, not-moved, last-is-turn, nothing-is-turn}
+use Rattle.service.proofs.Laws.{more_failed, more-ended, more-came, moved_more, not_moved, last_is_turn, nothing_is_turn}
 use borrow.Author.Rules.{rules}
 use Rattle.service.proofs.read_more.Statement.{statement}
 use Rattle.service.proofs.read_more.Tie as tie
@@ -32,7 +32,7 @@ returns : tie.Need-returns
 returns c =
     let r = c.before.before.before.before.before in
     let h = r.before.before.before.before.shift in
-    (more-failed _ h.new.0 r.read_Some.new.0 _ _ h.ensures r.read_Some.auto.0 _, not-moved _ _ nothing-is-turn)
+    (more_failed _ h.new.0 r.read_Some.new.0 _ _ h.ensures r.read_Some.auto.0 _, not_moved _ _ nothing_is_turn)
 
 sub-count : tie.Need-overflow-sub-count
 sub-count c = search rules
@@ -53,7 +53,7 @@ returns-2 : tie.Need-returns-2
 returns-2 c =
     let r = c.before.before.before.before.before.before.before in
     let h = r.before.before.before.before.shift in
-    (more-ended _ h.new.0 r.read_Some.new.0 _ _ h.ensures r.read_Some.auto.0 _, not-moved _ _ last-is-turn)
+    (more-ended _ h.new.0 r.read_Some.new.0 _ _ h.ensures r.read_Some.auto.0 _, not_moved _ _ last_is_turn)
 
 add-t14 : tie.Need-overflow-add-t14
 add-t14 c = search rules

@@ -6,7 +6,7 @@ use native.Mathlib.Omega.{arith}
 use lib.ListN.{length}
 use borrow.Author.Rules.{rules}
 use Rattle.service.specs.Inner.{passed}
-use Rattle.service.proofs.Laws.{Going, going_start, going-good, going_on, going-over, left, fewer, roomy-kept, last-is-turn, nothing-is-turn}
+use Rattle.service.proofs.Laws.{Going, going_start, going_good, going_on, going_over, left, fewer, roomy_kept, last_is_turn, nothing_is_turn}
 use Rattle.service.proofs.serve.Statement.{statement}
 use Rattle.service.proofs.serve.Tie as tie
 
@@ -25,13 +25,13 @@ enum_told c = search rules
 step-requires : tie.Need-step-requires invariant-loop decreases-loop
 step-requires c κs =
     let l = c.before.before.before.before.before.before in
-    (going-good _ _ _ _ _ _ _ _ l.loop.invariant, roomy-kept _ _ _ _ _ _ _ _ l.loop.invariant l.before.before.before.before.requires)
+    (going_good _ _ _ _ _ _ _ _ l.loop.invariant, roomy_kept _ _ _ _ _ _ _ _ l.loop.invariant l.before.before.before.before.requires)
 
 loop-less : tie.Need-loop-smaller invariant-loop decreases-loop
 loop-less c =
     let d = c.before.before.before.before.before.before in
     let l = d.before.before.before.before.before.before.before.loop in
-    fewer _ l.n.s _ l.n.ahead d.before.before.before.before.before.enum_told.given.1 (omega (arith, l.invariant.fits, (going-good _ _ _ _ _ _ _ _ l.invariant).within, l.invariant.same-buf)) d.step.ensures.1
+    fewer _ l.n.s _ l.n.ahead d.before.before.before.before.before.enum_told.given.1 (omega (arith, l.invariant.fits, (going_good _ _ _ _ _ _ _ _ l.invariant).within, l.invariant.same_buf)) d.step.ensures.1
 
 loop-again : tie.Need-loop-preserved invariant-loop decreases-loop
 loop-again c =
@@ -52,7 +52,7 @@ same-length-3 c = search rules
 
 returns : tie.Need-returns invariant-loop decreases-loop
 returns c =
-    going-over _ _ _ _ _ _ _ _ c.before.before.loop.invariant (λ e. last-is-turn (sym c.enum-told2.given.1 ∙ e))
+    going_over _ _ _ _ _ _ _ _ c.before.before.loop.invariant (λ e. last_is_turn (sym c.enum-told2.given.1 ∙ e))
 
 enum-told-3 : tie.Need-enum-told-3 invariant-loop decreases-loop
 enum-told-3 c = search rules
@@ -68,7 +68,7 @@ same-length-6 c = search rules
 
 returns-2 : tie.Need-returns-2 invariant-loop decreases-loop
 returns-2 c =
-    going-over _ _ _ _ _ _ _ _ c.before.before.loop.invariant (λ e. nothing-is-turn (sym c.enum-told3.given.1 ∙ e))
+    going_over _ _ _ _ _ _ _ _ c.before.before.loop.invariant (λ e. nothing_is_turn (sym c.enum-told3.given.1 ∙ e))
 
 pub serve-spec : {M : Type 1} → statement M
 serve-spec =

@@ -4,8 +4,8 @@ use native.Mathlib.Omega.{arith}
 use lib.ListN.{length-take}
 use lib.Seq.{length-take-le}
 use Rattle.service.specs.declared.Ahead.TheVariants.{Turn, LastLine, Nothing}
-use Rattle.service.proofs.Laws.{turned-call, turned_more, moved_call, moved-after, not-moved, reads_on, ends, has_room}
-use Rattle.service.proofs.Laws.{turn-is-last, nothing-is-last, last-is-turn, nothing-is-turn}
+use Rattle.service.proofs.Laws.{turned_call, turned_more, moved_call, moved-after, not_moved, reads_on, ends, has_room}
+use Rattle.service.proofs.Laws.{turn_is_last, nothing_is_last, last_is_turn, nothing_is_turn}
 use borrow.Author.Rules.{rules}
 use Rattle.service.proofs.step.Statement.{statement}
 use Rattle.service.proofs.step.Tie as tie
@@ -37,7 +37,7 @@ returns c =
     let k = o.before.before.before.before.before.before.before in
     let j = k.judge-held.ensures in
     let e = o.write-out.ensures ∙ length-take-le _ _ j.inside in
-    (turned-call _ _ _ _ _ _ j _ e Nothing (λ f. absurd (nothing-is-last f)), not-moved _ _ nothing-is-turn)
+    (turned_call _ _ _ _ _ _ j _ e Nothing (λ f. absurd (nothing_is_last f)), not_moved _ _ nothing_is_turn)
 
 way-after-requires : tie.Need-way-after-requires
 way-after-requires c κs = search rules
@@ -54,7 +54,7 @@ read-more-requires c κs =
     let k = o.before.before.before.before.before.before.before in
     let j = k.judge-held.ensures in
     let way = sym c.before.before.before.way-after.ensures ∙ c.before.enum-told2.given.1 in
-    (j.good, has_room k.judge-held.result.s.stop _ _ _ j.none j.short k.before.before.before.before.before.before.before.requires.1.record-fits way)
+    (j.good, has_room k.judge-held.result.s.stop _ _ _ j.none j.short k.before.before.before.before.before.before.before.requires.1.record_fits way)
 
 enum-told-3 : tie.Need-enum-told-3
 enum-told-3 c = search rules
@@ -75,7 +75,7 @@ returns-2 c =
     let j = k.judge-held.ensures in
     let e = o.write-out.ensures ∙ length-take-le _ _ j.inside in
     let way = sym c.before.before.way-after.ensures ∙ c.enum_told.given.1 in
-    (turned-call _ _ _ _ _ _ j _ e Turn (λ f. absurd (turn-is-last f)), moved_call _ _ _ _ _ _ _ _ k.before.before.before.before.before.before.before.requires.1 j way)
+    (turned_call _ _ _ _ _ _ j _ e Turn (λ f. absurd (turn_is_last f)), moved_call _ _ _ _ _ _ _ _ k.before.before.before.before.before.before.before.requires.1 j way)
 
 same-length-7 : tie.Need-same-length-7
 same-length-7 c = search rules
@@ -112,7 +112,7 @@ returns-4 c =
     let j = k.judge-held.ensures in
     let e = o.write-out.ensures ∙ length-take-le _ _ j.inside in
     let way = sym c.before.before.way-after.ensures ∙ c.enum-told3.given.1 in
-    (turned-call _ _ _ _ _ _ j _ e LastLine (λ f. ends k.judge-held.result.s.stop way), not-moved _ _ last-is-turn)
+    (turned_call _ _ _ _ _ _ j _ e LastLine (λ f. ends k.judge-held.result.s.stop way), not_moved _ _ last_is_turn)
 
 pub step_spec : {M : Type 1} → statement M
 step_spec =

@@ -4,7 +4,7 @@ use mathlib.Core.List.{[]}
 use native.Mathlib.Omega.{arith}
 use mathlib.Core.Path.{ap}
 use lib.ListN.{length, length-take}
-use Rattle.sheet.proofs.Sheets.{copied-text}
+use Rattle.sheet.proofs.Sheets.{copied_text}
 use borrow.Author.Rules.{rules}
 use Rattle.sheet.proofs.copied.Statement.{statement}
 use Rattle.sheet.proofs.copied.Tie as tie
@@ -28,7 +28,7 @@ returns : tie.Need-returns
 returns c =
     let f = c.before.before.before in
     let z = f.before in
-    copied-text z.before.before.args.t.now _ _ _ z.zeros.ensures f.front.ensures c.before.copy.ensures.1
+    copied_text z.before.before.args.t.now _ _ _ z.zeros.ensures f.front.ensures c.before.copy.ensures.1
 
 pub copied-spec : {M : Type 1} → statement M
 copied-spec =

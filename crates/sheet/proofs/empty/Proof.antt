@@ -1,5 +1,5 @@
 -- `sheet::empty` meets its contract: it is zero throughout.
-use Rattle.sheet.specs.Sheets.{emptySheet}
+use Rattle.sheet.specs.Sheets.{empty_sheet}
 use borrow.Author.Rules.{rules}
 use Rattle.sheet.proofs.empty.Statement.{statement}
 use Rattle.sheet.proofs.empty.Tie as tie
@@ -8,7 +8,7 @@ zeros-requires : tie.Need-zeros-requires
 zeros-requires c κs = search rules
 
 returns : tie.Need-returns
-unfolding emptySheet
+unfolding empty_sheet
 returns c = rw c.zeros.ensures
 
 pub empty-spec : {M : Type 1} → statement M

@@ -1,6 +1,6 @@
 -- `sheet::front` meets its contract: a part, or all where there are no more.
 use mathlib.Core.Path.{sym}
-use native.Mathlib.Nat.{sub-zero}
+use native.Mathlib.Nat.{sub_zero}
 use native.Mathlib.Omega.{arith}
 use lib.Seq.{take_all}
 use borrow.Author.Rules.{rules}
@@ -17,7 +17,7 @@ part-result-end : tie.Need-slice-bounds-result-end
 part-result-end c = search rules
 
 returns : tie.Need-returns
-returns c = rw sub-zero
+returns c = rw sub_zero
 
 returns-2 : tie.Need-returns-2
 returns-2 c =

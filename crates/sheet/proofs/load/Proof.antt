@@ -1,6 +1,6 @@
 -- `sheet::load` meets its contract: the kind, the check of the field, and its sheet where the check answers 0 or 5.
 use mathlib.Core.Path.{◌∙◌, sym}
-use Rattle.sheet.proofs.Loads.{load-other, load-written, load_kept}
+use Rattle.sheet.proofs.Loads.{load_other, load_written, load_kept}
 use borrow.Author.Rules.{rules}
 use Rattle.sheet.proofs.load.Statement.{statement}
 use Rattle.sheet.proofs.load.Tie as tie
@@ -22,7 +22,7 @@ returns c =
     let s = c.before in
     let f = s.before.before in
     let k = f.before in
-    load-written _ _ _ _ _ (sym k.before.is-sheet-kind.ensures ∙ k.if1.true) f.check-field.ensures (sym s.before.is-summed.ensures ∙ s.if2.true) c.sheet-of.ensures
+    load_written _ _ _ _ _ (sym k.before.is-sheet-kind.ensures ∙ k.if1.true) f.check-field.ensures (sym s.before.is-summed.ensures ∙ s.if2.true) c.sheet-of.ensures
 
 returns-2 : tie.Need-returns-2
 returns-2 c =
@@ -36,7 +36,7 @@ refused-requires c κs = search rules
 returns-3 : tie.Need-returns-3
 returns-3 c =
     let k = c.before in
-    c.refused.ensures ∙ sym (load-other _ _ _ (sym k.before.is-sheet-kind.ensures ∙ k.if1.false))
+    c.refused.ensures ∙ sym (load_other _ _ _ (sym k.before.is-sheet-kind.ensures ∙ k.if1.false))
 
 pub load_spec : {M : Type 1} → statement M
 load_spec =

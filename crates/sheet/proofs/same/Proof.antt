@@ -1,20 +1,20 @@
 -- `sheet::same` meets its contract: the tests are the definition's, part by part.
 use borrow.Author.Tests.{eq-eqb, ne_eqb}
-use Rattle.sheet.specs.Sheets.{sameSheet}
+use Rattle.sheet.specs.Sheets.{same_sheet}
 use borrow.Author.Rules.{rules}
 use Rattle.sheet.proofs.same.Statement.{statement}
 use Rattle.sheet.proofs.same.Tie as tie
 
 returns : tie.Need-returns
-unfolding sameSheet
+unfolding same_sheet
 returns c = rw (ne_eqb _ _ c.if1.true)
 
 returns-2 : tie.Need-returns-2
-unfolding sameSheet
+unfolding same_sheet
 returns-2 c = rw (eq-eqb _ _ c.before.before.before.if1.false, ne_eqb _ _ c.if2.true)
 
 returns-3 : tie.Need-returns-3
-unfolding sameSheet
+unfolding same_sheet
 returns-3 c =
     let b = c.before.before.before in
     rw (eq-eqb _ _ b.before.before.before.if1.false, eq-eqb _ _ b.if2.false, ne_eqb _ _ c.if3.true)
@@ -23,7 +23,7 @@ same-text-requires : tie.Need-same-text-requires
 same-text-requires c κs = search rules
 
 returns-4 : tie.Need-returns-4
-unfolding sameSheet
+unfolding same_sheet
 returns-4 c =
     let d = c.before.before.before in
     let b = d.before.before.before in

@@ -3,13 +3,13 @@ use Prim.Native.Nat.{◌-◌}
 use mathlib.Core.Path.{◌≡◌, refl, sym, ◌∙◌}
 use native.Mathlib.Omega.{arith}
 use lib.ListN.{drop}
-use Rattle.text.specs.Same.{sameText}
+use Rattle.text.specs.Same.{same_text}
 use Rattle.text.proofs.Same.{same_more, same_not, same_end}
 use Rattle.sheet.proofs.same_text.Statement.{statement}
 use Rattle.sheet.proofs.same_text.Tie as tie
 
 abbrev invariant-loop : tie.invariant-loop
-invariant-loop a b i₀ i = sameText a b ≡ sameText (drop i a) (drop i b)
+invariant-loop a b i₀ i = same_text a b ≡ same_text (drop i a) (drop i b)
 
 abbrev decreases-loop : tie.decreases-loop
 decreases-loop a b i₀ i = 34 - i

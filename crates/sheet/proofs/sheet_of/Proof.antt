@@ -1,6 +1,6 @@
 -- `sheet::sheet_of` meets its contract: an IBAN in electronic format, an LEI as it stands.
 use mathlib.Core.Path.{◌∙◌}
-use Rattle.sheet.proofs.Loads.{iban-sheet, lei-sheet}
+use Rattle.sheet.proofs.Loads.{iban_sheet, lei_sheet}
 use borrow.Author.Rules.{rules}
 use Rattle.sheet.proofs.sheet_of.Statement.{statement}
 use Rattle.sheet.proofs.sheet_of.Tie as tie
@@ -14,7 +14,7 @@ sheet-with-requires c κs = search rules
 returns : tie.Need-returns
 returns c =
     let e = c.before.before in
-    λ p. c.sheet-with.ensures ∙ iban-sheet _ _ _ e.before.if1.true e.electronic-format.ensures p
+    λ p. c.sheet-with.ensures ∙ iban_sheet _ _ _ e.before.if1.true e.electronic-format.ensures p
 
 copied-requires : tie.Need-copied-requires
 copied-requires c κs = search rules
@@ -23,7 +23,7 @@ sheet-with-requires-2 : tie.Need-sheet-with-requires-2
 sheet-with-requires-2 c κs = search rules
 
 returns-2 : tie.Need-returns-2
-returns-2 c = λ p. c.sheet-with2.ensures ∙ rw c.before.copied.ensures (lei-sheet _ _ c.before.before.if1.false p)
+returns-2 c = λ p. c.sheet-with2.ensures ∙ rw c.before.copied.ensures (lei_sheet _ _ c.before.before.if1.false p)
 
 pub sheet-of-spec : {M : Type 1} → statement M
 sheet-of-spec =

@@ -1,7 +1,7 @@
 -- `sheet::stands` meets its contract: the empty sheet does not, any other where a load of its own text gives it.
 use mathlib.Core.Path.{◌∙◌, sym, ap}
 use Rattle.sheet.specs.declared.Repaired.{Repaired}
-use Rattle.sheet.proofs.Sheets.{empty-falls, by-own}
+use Rattle.sheet.proofs.Sheets.{empty_falls, by_own}
 use borrow.Author.Rules.{rules}
 use Rattle.sheet.proofs.stands.Statement.{statement}
 use Rattle.sheet.proofs.stands.Tie as tie
@@ -13,7 +13,7 @@ same-requires : tie.Need-same-requires
 same-requires c κs = search rules
 
 returns : tie.Need-returns
-returns c = sym (empty-falls _ (sym (rw c.before.before.empty.ensures at c.before.same.ensures) ∙ c.if1.true))
+returns c = sym (empty_falls _ (sym (rw c.before.before.empty.ensures at c.before.same.ensures) ∙ c.if1.true))
 
 slice-aggregate-front : tie.Need-slice-aggregate-front
 slice-aggregate-front c = search rules
@@ -37,7 +37,7 @@ returns-2 c =
     let i = f.before.before.before in
     c.same2.ensures
     ∙ rw (ap (λ (r : Repaired). r.sheet) l.load.ensures, f.front.ensures, l.before.empty2.ensures)
-    (sym (by-own _ (sym (rw i.before.before.empty.ensures at i.before.same.ensures) ∙ i.if1.false)))
+    (sym (by_own _ (sym (rw i.before.before.empty.ensures at i.before.same.ensures) ∙ i.if1.false)))
 
 pub stands-spec : {M : Type 1} → statement M
 stands-spec =

@@ -3,9 +3,9 @@ use native.Mathlib.Omega.{arith}
 use borrow.Author.Rules.{rules}
 use mathlib.Core.Path.{◌∙◌}
 use lib.ListN.{take, drop}
-use Rattle.record.proofs.Numbers.{number-most, part-long, part-read}
-use Rattle.stitchbarrow.specs.Sheets.{sheetAt}
-use Rattle.stitchbarrow.proofs.Laws.{copied-whole}
+use Rattle.record.proofs.Numbers.{number-most, part_long, part-read}
+use Rattle.stitchbarrow.specs.Sheets.{sheet_at}
+use Rattle.stitchbarrow.proofs.Laws.{copied_whole}
 use Rattle.stitchbarrow.proofs.read_sheet.Statement.{statement}
 use Rattle.stitchbarrow.proofs.read_sheet.Tie as tie
 
@@ -67,14 +67,14 @@ copy-requires : tie.Need-copy-requires
 copy-requires c κs = search rules
 
 returns : tie.Need-returns
-unfolding sheetAt
+unfolding sheet_at
 returns c =
     let p = c.before in
     let r3 = p.before.before.before in
     let r2 = r3.before.before in
     let r1 = r2.before.before in
     let b = r1.before.before.before.args.b.now in
-    let text = copied-whole (take 34 (drop 12 b)) _ _ (rw (part-long 12 34 b (omega arith)) (omega arith)) p.copy.ensures.1 in
+    let text = copied_whole (take 34 (drop 12 b)) _ _ (rw (part_long 12 34 b (omega arith)) (omega arith)) p.copy.ensures.1 in
     rw (
       r1.read_number.ensures ∙ part-read b 0 2 (omega arith),
       r2.read-number2.ensures ∙ part-read b 2 2 (omega arith),

@@ -1,8 +1,8 @@
 -- `stitchbarrow::reply` meets its contract: nothing is written where a slice is too short, and else the sheet's bytes and the answer's.
 use mathlib.Core.Path.{ap}
 use borrow.Author.Rules.{rules}
-use Rattle.stitchbarrow.specs.Reply.{Reply, answerReply, handed}
-use Rattle.stitchbarrow.proofs.Replies.{short-sheet, short-answer, both-written}
+use Rattle.stitchbarrow.specs.Reply.{Reply, answer_reply, handed}
+use Rattle.stitchbarrow.proofs.Replies.{short-sheet, short-answer, both_written}
 use Rattle.stitchbarrow.proofs.reply.Statement.{statement}
 use Rattle.stitchbarrow.proofs.reply.Tie as tie
 
@@ -31,7 +31,7 @@ same-length-2 : tie.Need-same-length-2
 same-length-2 c = search rules
 
 returns-3 : tie.Need-returns-3
-unfolding handed answerReply
+unfolding handed answer_reply
 returns-3 c =
     let t = c.before.before in
     let a = t.tell.ensures in
@@ -39,7 +39,7 @@ returns-3 c =
     let m = w.before.before.before in
     let i = m.before.before.before in
     rw (w.write-sheet.ensures, ap (λ (x : Reply). x.code) a, ap (λ (x : Reply). x.bytes) a, m.made.ensures, m.before.read-sheet.ensures)
-    (both-written _ _ _ i.before.if1.false i.if2.false)
+    (both_written _ _ _ i.before.if1.false i.if2.false)
 
 pub reply-spec : {M : Type 1} → statement M
 reply-spec =

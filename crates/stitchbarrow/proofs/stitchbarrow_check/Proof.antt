@@ -1,12 +1,12 @@
 -- `stitchbarrow_check` meets its contract: the answer to the field is told, unless its slice is too short.
 use borrow.Author.Tests.{lt-ltb, le-ltb}
 use borrow.Author.Rules.{rules}
-use Rattle.stitchbarrow.specs.Reply.{checkReply}
+use Rattle.stitchbarrow.specs.Reply.{check_reply}
 use Rattle.stitchbarrow.proofs.stitchbarrow_check.Statement.{statement}
 use Rattle.stitchbarrow.proofs.stitchbarrow_check.Tie as tie
 
 returns : tie.Need-returns
-unfolding checkReply
+unfolding check_reply
 returns c = rw (lt-ltb _ _ c.if1.true)
 
 check-field-requires : tie.Need-check-field-requires
@@ -19,7 +19,7 @@ same_length : tie.Need-same-length
 same_length c = search rules
 
 returns-2 : tie.Need-returns-2
-unfolding checkReply
+unfolding check_reply
 returns-2 c =
     let t = c.before.before in
     let f = t.before.before in

@@ -4,12 +4,12 @@ use lib.ListN.{length-set}
 use borrow.Author.Tests.{lt-ltb, le-ltb}
 use borrow.Author.Rules.{rules}
 use Rattle.stitchbarrow.proofs.Laws.{three}
-use Rattle.stitchbarrow.specs.Reply.{runReply}
+use Rattle.stitchbarrow.specs.Reply.{run_reply}
 use Rattle.stitchbarrow.proofs.stitchbarrow_run.Statement.{statement}
 use Rattle.stitchbarrow.proofs.stitchbarrow_run.Tie as tie
 
 returns : tie.Need-returns
-unfolding runReply
+unfolding run_reply
 returns c = rw (lt-ltb _ _ c.if1.true)
 
 run-requires : tie.Need-run-requires
@@ -34,7 +34,7 @@ same-length-2 : tie.Need-same-length-2
 same-length-2 c = search rules
 
 returns-2 : tie.Need-returns-2
-unfolding runReply
+unfolding run_reply
 returns-2 c =
     let r = c.before.before.before in
     let a = r.before.before.before.before.before.before.args in

@@ -1,7 +1,7 @@
 -- `stitchbarrow::tell` meets its contract: the answer's bytes are copied over the front of the slice.
 use borrow.Author.Rules.{rules}
-use Rattle.verdict.specs.Verdict.{answerBytes}
-use Rattle.stitchbarrow.specs.Reply.{answerReply}
+use Rattle.verdict.specs.Verdict.{answer_bytes}
+use Rattle.stitchbarrow.specs.Reply.{answer_reply}
 use Rattle.stitchbarrow.proofs.tell.Statement.{statement}
 use Rattle.stitchbarrow.proofs.tell.Tie as tie
 
@@ -21,7 +21,7 @@ same_length : tie.Need-same-length
 same_length c = search rules
 
 returns : tie.Need-returns
-unfolding answerReply answerBytes
+unfolding answer_reply answer_bytes
 returns c =
     let p = c.before.before.before in
     let b = p.before.before.before in

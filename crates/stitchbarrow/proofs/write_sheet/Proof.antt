@@ -5,8 +5,8 @@ use mathlib.Core.Path.{◌≡◌}
 use mathlib.Core.List.{◌++◌}
 use lib.ListN.{length, take, drop, length-take, length-drop}
 use borrow.Rule.Slice.PartMut.{put_mid}
-use Rattle.record.proofs.Numbers.{part-long, part-written}
-use Rattle.stitchbarrow.proofs.Laws.{copied-whole, laid}
+use Rattle.record.proofs.Numbers.{part_long, part-written}
+use Rattle.stitchbarrow.proofs.Laws.{copied_whole, laid}
 use Rattle.stitchbarrow.proofs.write_sheet.Statement.{statement}
 use Rattle.stitchbarrow.proofs.write_sheet.Tie as tie
 
@@ -90,7 +90,7 @@ returns c =
     (part-written 0 2 s.kind b w1 (omega arith) p1.write-number.ensures)
     (part-written 2 2 s.length b1 w2 (omega arith) p2.write-number2.ensures)
     (part-written 4 8 s.remainder b2 w3 (omega arith) p3.write-number3.ensures)
-    (copied-whole s.text (take 34 (drop 12 b3)) _ (rw (part-long 12 34 b3 (omega (arith, p4.before.before.before.before.before.b3.given))) (omega (arith, long p4.before))) p4.copy.ensures.1)
+    (copied_whole s.text (take 34 (drop 12 b3)) _ (rw (part_long 12 34 b3 (omega (arith, p4.before.before.before.before.before.b3.given))) (omega (arith, long p4.before))) p4.copy.ensures.1)
 
 pub write-sheet-spec : {M : Type 1} → statement M
 write-sheet-spec =

@@ -3,13 +3,13 @@ use Prim.Native.Nat.{◌+◌, ◌-◌, ◌≤◌}
 use mathlib.Core.Path.{◌≡◌}
 use native.Mathlib.Omega.{arith}
 use lib.ListN.{length, drop}
-use Rattle.text.specs.Field.{firstPlace}
-use Rattle.text.proofs.Fields.{first-here, first_next, first-none}
+use Rattle.text.specs.Field.{first_place}
+use Rattle.text.proofs.Fields.{first_here, first_next, first-none}
 use Rattle.text.proofs.first_place.Statement.{statement}
 use Rattle.text.proofs.first_place.Tie as tie
 
 abbrev invariant-loop : tie.invariant-loop
-invariant-loop s b i₀ i = (i ≤ length s) × (firstPlace b s ≡ i + firstPlace b (drop i s))
+invariant-loop s b i₀ i = (i ≤ length s) × (first_place b s ≡ i + first_place b (drop i s))
 
 abbrev decreases-loop : tie.decreases-loop
 decreases-loop s b i₀ i = length s - i
@@ -24,7 +24,7 @@ returns : tie.Need-returns invariant-loop decreases-loop
 returns c =
     let k = c.before.before.before in
     let a = k.before.args in
-    omega (arith, first-here a.b a.s.now k.loop.i c.before.before.loop-test.true c.if1.true)
+    omega (arith, first_here a.b a.s.now k.loop.i c.before.before.loop-test.true c.if1.true)
 
 add-i : tie.Need-overflow-add-i invariant-loop decreases-loop
 add-i c = omega arith

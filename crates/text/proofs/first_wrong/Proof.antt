@@ -3,12 +3,12 @@ use mathlib.Core.Path.{◌≡◌}
 use Prim.Native.Nat.{◌-◌}
 use native.Mathlib.Omega.{arith}
 use borrow.Author.Rules.{rules}
-use Rattle.text.specs.Field.{wrongFrom, firstWrong}
+use Rattle.text.specs.Field.{wrong_from, first_wrong}
 use Rattle.text.proofs.first_wrong.Statement.{statement}
 use Rattle.text.proofs.first_wrong.Tie as tie
 
 returns : tie.Need-returns
-unfolding firstWrong wrongFrom
+unfolding first_wrong wrong_from
 returns c =
     let none : c.before.before.args.to - c.before.before.args.from ≡ 0 = omega arith in
     rw none
@@ -20,7 +20,7 @@ wrong-from-requires : tie.Need-wrong-from-requires
 wrong-from-requires c κs = search rules
 
 returns-2 : tie.Need-returns-2
-unfolding firstWrong
+unfolding first_wrong
 returns-2 c = c.wrong-from.ensures
 
 pub first-wrong-spec : {M : Type 1} → statement M

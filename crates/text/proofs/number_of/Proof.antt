@@ -5,13 +5,13 @@ use lib.Seq.{take_all}
 use native.Mathlib.Omega.{arith}
 use borrow.Author.Rules.{rules}
 use lib.ListN.{length, take}
-use Rattle.text.proofs.Decimals.{number-none, number_more, number-grows, fits, over, fitted-is, over-is}
-use Rattle.text.specs.Decimal.{numberWritten}
+use Rattle.text.proofs.Decimals.{number-none, number_more, number_grows, fits, over, fitted-is, over-is}
+use Rattle.text.specs.Decimal.{number_written}
 use Rattle.text.proofs.number_of.Statement.{statement}
 use Rattle.text.proofs.number_of.Tie as tie
 
 abbrev invariant-loop : tie.invariant-loop
-invariant-loop t n₀ i₀ n i = (i ≤ length t) × (n < 2 ^ 64) × (n ≡ numberWritten (take i t))
+invariant-loop t n₀ i₀ n i = (i ≤ length t) × (n < 2 ^ 64) × (n ≡ number_written (take i t))
 
 abbrev decreases-loop : tie.decreases-loop
 decreases-loop t n₀ i₀ n i = length t - i
@@ -40,7 +40,7 @@ returns c =
     let k = w.before.before.before.before in
     let t = k.before.before.args.t.now in
     let m = over-is (k.loop.n * 10 + w.before.digit.result) (sym w.with-digit.ensures ∙ c.enum_told.given.1) in
-    over (numberWritten t) (omega (arith, w.before.digit.ensures.0, number_more t k.loop.i w.before.before.before.loop-test.true, number-grows (k.loop.i + 1) t))
+    over (number_written t) (omega (arith, w.before.digit.ensures.0, number_more t k.loop.i w.before.before.before.loop-test.true, number_grows (k.loop.i + 1) t))
 
 add-i : tie.Need-overflow-add-i invariant-loop decreases-loop
 add-i c = omega arith
@@ -60,7 +60,7 @@ returns-2 : tie.Need-returns-2 invariant-loop decreases-loop
 returns-2 c =
     let k = c.before in
     let t = k.before.before.args.t.now in
-    let whole : k.loop.n ≡ numberWritten t = k.loop.invariant.2 ∙ ap numberWritten (take_all k.loop.i t (omega arith)) in
+    let whole : k.loop.n ≡ number_written t = k.loop.invariant.2 ∙ ap number_written (take_all k.loop.i t (omega arith)) in
     rw (← whole) (fits k.loop.n k.loop.invariant.1)
 
 pub number-of-spec : {M : Type 1} → statement M

@@ -3,13 +3,13 @@ use Prim.Native.Nat.{◌<◌}
 use native.Mathlib.Omega.{arith}
 use lib.ListN.{length}
 use borrow.Author.Rules.{rules}
-use Rattle.text.proofs.Fields.{digit-inside, pair-first, pair-second, pair-range}
+use Rattle.text.proofs.Fields.{digit_inside, pair_first, pair_second, pair_range}
 use Rattle.text.proofs.two_digits.Statement.{statement}
 use Rattle.text.proofs.two_digits.Tie as tie
 
 -- the first digit stands inside the field
 here : (c : tie.Then1) → c.before.before.before.before.args.i < length c.before.before.before.before.args.s.now
-here c = digit-inside c.before.before.before.before.args.s.now _ c.before.before.at.ensures c.before.allows.ensures c.if1.true
+here c = digit_inside c.before.before.before.before.args.s.now _ c.before.before.at.ensures c.before.allows.ensures c.if1.true
 
 at-requires : tie.Need-at-requires
 at-requires c κs = search rules
@@ -48,7 +48,7 @@ returns : tie.Need-returns
 returns c =
     let d = c.before.before.before in
     let e = d.before.before.before in
-    pair-range _ _ _ _ _ e.before.before.at.ensures e.before.allows.ensures e.if1.true d.before.before.at2.ensures d.before.allows2.ensures d.if2.true
+    pair_range _ _ _ _ _ e.before.before.at.ensures e.before.allows.ensures e.if1.true d.before.before.at2.ensures d.before.allows2.ensures d.if2.true
     c.before.before.digit.ensures.0 c.before.digit2.ensures.0 c.in-range.ensures
 
 add-t10 : tie.Need-overflow-add-t10
@@ -57,10 +57,10 @@ add-t10 c = omega (arith, here c.before.before.before)
 returns-2 : tie.Need-returns-2
 returns-2 c =
     let e = c.before.before.before in
-    pair-second _ _ _ _ _ e.before.before.at.ensures e.before.allows.ensures e.if1.true c.before.before.at2.ensures c.before.allows2.ensures c.if2.false
+    pair_second _ _ _ _ _ e.before.before.at.ensures e.before.allows.ensures e.if1.true c.before.before.at2.ensures c.before.allows2.ensures c.if2.false
 
 returns-3 : tie.Need-returns-3
-returns-3 c = pair-first _ _ _ _ _ c.before.before.at.ensures c.before.allows.ensures c.if1.false
+returns-3 c = pair_first _ _ _ _ _ c.before.before.at.ensures c.before.allows.ensures c.if1.false
 
 pub two-digits-spec : {M : Type 1} → statement M
 two-digits-spec =

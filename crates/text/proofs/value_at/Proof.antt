@@ -5,13 +5,13 @@ use Prim.Native.Nat.{◌<◌, ◌≤◌, ◌-◌}
 use mathlib.Core.Path.{◌≡◌}
 use native.Mathlib.Omega.{arith}
 use borrow.Author.Rules.{rules}
-use Rattle.text.proofs.Decimals.{number-none, number_more, number-grows}
-use Rattle.text.specs.Decimal.{numberWritten}
+use Rattle.text.proofs.Decimals.{number-none, number_more, number_grows}
+use Rattle.text.specs.Decimal.{number_written}
 use Rattle.text.proofs.value_at.Statement.{statement}
 use Rattle.text.proofs.value_at.Tie as tie
 
 abbrev invariant-loop : tie.invariant-loop
-invariant-loop s i n v₀ k₀ v k = (k ≤ n) × (v ≡ numberWritten (take k (drop i s)))
+invariant-loop s i n v₀ k₀ v k = (k ≤ n) × (v ≡ number_written (take k (drop i s)))
 
 abbrev decreases-loop : tie.decreases-loop
 decreases-loop s i n v₀ k₀ v k = n - k
@@ -21,7 +21,7 @@ part : (k : tie.At-loop invariant-loop decreases-loop) → k.loop.v < 10000
 part k =
     let a = k.before.before.args in
     let l = drop a.i a.s.now in
-    omega (arith, rw (take-take k.loop.k a.n l k.loop.invariant.0) at (number-grows k.loop.k (take a.n l)))
+    omega (arith, rw (take-take k.loop.k a.n l k.loop.invariant.0) at (number_grows k.loop.k (take a.n l)))
 
 loop-holds : tie.Need-loop-init invariant-loop decreases-loop
 loop-holds c = (omega arith, omega (arith, number-none))

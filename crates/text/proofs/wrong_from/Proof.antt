@@ -6,14 +6,14 @@ use mathlib.Core.Path.{◌≡◌, refl, sym, ◌∙◌}
 use mathlib.Core.Bool.{true}
 use native.Mathlib.Omega.{arith}
 use borrow.Author.Rules.{rules}
-use Rattle.text.proofs.Fields.{allowed-inside, wrong-on, wrong-here, wrong-none}
+use Rattle.text.proofs.Fields.{allowed-inside, wrong_on, wrong_here, wrong_none}
 use Rattle.text.specs.Class.{allowed}
-use Rattle.text.specs.Field.{wrongFrom}
+use Rattle.text.specs.Field.{wrong_from}
 use Rattle.text.proofs.wrong_from.Statement.{statement}
 use Rattle.text.proofs.wrong_from.Tie as tie
 
 abbrev invariant-loop : tie.invariant-loop
-invariant-loop set s from n check i₀ left₀ i left = wrongFrom set s from n check ≡ wrongFrom set s i left check
+invariant-loop set s from n check i₀ left₀ i left = wrong_from set s from n check ≡ wrong_from set s i left check
 
 abbrev decreases-loop : tie.decreases-loop
 decreases-loop set s from n check i₀ left₀ i left = left
@@ -52,13 +52,13 @@ loop-again : tie.Need-loop-preserved invariant-loop decreases-loop
 loop-again c =
     let k = c.before.before.before.before in
     let a = k.before.before.args in
-    k.loop.invariant ∙ wrong-on a.set a.s.now k.loop.i a.check k.loop.left c.before.before.before.loop-test.true (good c)
+    k.loop.invariant ∙ wrong_on a.set a.s.now k.loop.i a.check k.loop.left c.before.before.before.loop-test.true (good c)
 
 returns : tie.Need-returns invariant-loop decreases-loop
 returns c =
     let k = c.before.before.before.before in
     let a = k.before.before.args in
-    sym (k.loop.invariant ∙ wrong-here a.set a.s.now k.loop.i a.check k.loop.left c.before.before.before.loop-test.true
+    sym (k.loop.invariant ∙ wrong_here a.set a.s.now k.loop.i a.check k.loop.left c.before.before.before.loop-test.true
     (rw (← c.before.before.at.ensures, ← c.before.allows.ensures) c.if1.false))
 
 returns-2 : tie.Need-returns-2 invariant-loop decreases-loop
@@ -66,7 +66,7 @@ returns-2 c =
     let k = c.before in
     let a = k.before.before.args in
     let none : k.loop.left ≡ 0 = omega arith in
-    sym (k.loop.invariant ∙ rw none (sym (wrong-none a.set a.s.now k.loop.i a.check)))
+    sym (k.loop.invariant ∙ rw none (sym (wrong_none a.set a.s.now k.loop.i a.check)))
 
 pub wrong-from-spec : {M : Type 1} → statement M
 wrong-from-spec =

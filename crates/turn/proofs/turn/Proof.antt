@@ -2,7 +2,7 @@
 use mathlib.Core.Path.{sym}
 use lib.Seq.{length-take-le}
 use borrow.Author.Rules.{rules}
-use Rattle.turn.proofs.Laws.{room_in, whole_out, verdicts-are, turned}
+use Rattle.turn.proofs.Laws.{room_in, whole_out, verdicts_are, turned}
 use Rattle.turn.proofs.turn.Statement.{statement}
 use Rattle.turn.proofs.turn.Tie as tie
 
@@ -30,7 +30,7 @@ slice-aggregate-lines c =
     let a = c.before.before.before.before.before.before.before.before.before.args in
     let u = c.before.before.before.run in
     let m = c.before.before.before.before.before.room in
-    verdicts-are a.held.now a.offset a.out.now a.text.now a.budget m.result m.ensures u.result u.new.1.1.0 u.ensures.0 u.ensures.1.1
+    verdicts_are a.held.now a.offset a.out.now a.text.now a.budget m.result m.ensures u.result u.new.1.1.0 u.ensures.0 u.ensures.1.1
 
 lines-requires : tie.Need-lines-requires
 lines-requires c κs = search rules

@@ -1,7 +1,7 @@
 -- `utf8::bits_of_eight` meets its contract.
 use native.Mathlib.Omega.{arith}
 use borrow.Author.Rules.{rules}
-use Rattle.utf8.proofs.Ascii.{ascii-eight}
+use Rattle.utf8.proofs.Ascii.{ascii_eight}
 use Rattle.utf8.proofs.bits_of_eight.Statement.{statement}
 use Rattle.utf8.proofs.bits_of_eight.Tie as tie
 
@@ -51,7 +51,7 @@ shared-slice-read-result-8 : tie.Need-shared-slice-read-result-8
 shared-slice-read-result-8 c = search rules
 
 returns : tie.Need-returns
-returns c = let a = c.before.before.before.before.before.before.before.before.args in ascii-eight a.s.now a.i (omega arith)
+returns c = let a = c.before.before.before.before.before.before.before.before.args in ascii_eight a.s.now a.i (omega arith)
 
 pub bits-of-eight-spec : {M : Type 1} → statement M
 bits-of-eight-spec =

@@ -1,6 +1,6 @@
 -- `utf8::by_row` meets its contract: the bytes that were read are those by which `front` decides.
 use mathlib.Core.Path.{refl}
-use Rattle.utf8.proofs.Chars.{decodes, decodes-not}
+use Rattle.utf8.proofs.Chars.{decodes, decodes_not}
 use borrow.Author.Rules.{rules}
 use Rattle.utf8.proofs.by_row.Statement.{statement}
 use Rattle.utf8.proofs.by_row.Tie as tie
@@ -54,7 +54,7 @@ returns-2 c =
     let read = lead.before in
     let first = read.before.before in
     let start = first.before.before.before in
-    decodes-not start.args.s.now start.args.at _ first.at.result read.before.at2.result read.at3.result
+    decodes_not start.args.s.now start.args.at _ first.at.result read.before.at2.result read.at3.result
     lead.lead-of.result test.well-formed-2.result 0 start.requires
     refl first.at.ensures read.before.at2.ensures read.at3.ensures lead.lead-of.ensures test.well-formed-2.ensures
     c.if1.false

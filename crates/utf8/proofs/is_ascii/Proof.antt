@@ -8,7 +8,7 @@ use borrow.Author.Tests.{lt-ltb, le-ltb}
 use lib.ListN.{length, take, drop, length-drop}
 use lib.Seq.{take_all}
 use Rattle.utf8.specs.Chars.{ascii}
-use Rattle.utf8.proofs.Ascii.{ascii-part, ascii-not, ascii-last}
+use Rattle.utf8.proofs.Ascii.{ascii-part, ascii_not, ascii-last}
 use Rattle.utf8.proofs.is_ascii.Statement.{statement}
 use Rattle.utf8.proofs.is_ascii.Tie as tie
 
@@ -38,7 +38,7 @@ returns-2 : tie.Need-returns-2 invariant-loop decreases-loop
 returns-2 c =
     let l = c.before.before.before.loop in
     let s = c.before.before.before.before.before.before.args.s.now in
-    sym (ascii-not s (l.i + 8) (ascii-part s l.i 8 l.invariant.2 ∙ sym c.before.bits-of-eight.ensures ∙ le-ltb _ 128 c.if2.true))
+    sym (ascii_not s (l.i + 8) (ascii-part s l.i 8 l.invariant.2 ∙ sym c.before.bits-of-eight.ensures ∙ le-ltb _ 128 c.if2.true))
 
 add-i : tie.Need-overflow-add-i invariant-loop decreases-loop
 add-i c = search rules

@@ -3,7 +3,7 @@ use mathlib.Core.Path.{sym, ◌∙◌}
 use mathlib.Core.Logic.{⊎_elim}
 use native.Mathlib.Omega.{arith}
 use borrow.Author.Rules.{rules}
-use Rattle.utf8.specs.Rfc3629.{leadOf}
+use Rattle.utf8.specs.Rfc3629.{lead_of}
 use Rattle.utf8.proofs.Chars.{led}
 use Rattle.utf8.proofs.lead_of.Statement.{statement}
 use Rattle.utf8.proofs.lead_of.Tie as tie
@@ -39,19 +39,19 @@ new-requires-10 : tie.Need-new-requires-10
 new-requires-10 c κs = search rules
 
 returns : tie.Need-returns
-unfolding leadOf
+unfolding lead_of
 returns c = rw c.before.match.keys1 c.new.ensures
 
 returns-2 : tie.Need-returns-2
-unfolding leadOf
+unfolding lead_of
 returns-2 c = rw c.before.match.keys2 c.new2.ensures
 
 returns-3 : tie.Need-returns-3
-unfolding leadOf
+unfolding lead_of
 returns-3 c = rw c.before.match.keys3 c.new3.ensures
 
 returns-4 : tie.Need-returns-4
-unfolding leadOf
+unfolding lead_of
 returns-4 c = rw c.before.match.keys4 c.new4.ensures
 
 returns-5 : tie.Need-returns-5

@@ -1,7 +1,7 @@
 -- `utf8::scalar` meets its contract: the width says which bytes carry bits, and joining six bits at a time weighs each byte as the definition does.
 use native.Mathlib.Omega.{arith}
 use borrow.Author.Tests.{ne_eqb}
-use Rattle.utf8.specs.Rfc3629.{scalarOf}
+use Rattle.utf8.specs.Rfc3629.{scalar_of}
 use borrow.Author.Rules.{rules}
 use Rattle.utf8.proofs.scalar.Statement.{statement}
 use Rattle.utf8.proofs.scalar.Tie as tie
@@ -10,7 +10,7 @@ wide-requires : tie.Need-wide-requires
 wide-requires c κs = search rules
 
 returns : tie.Need-returns
-unfolding scalarOf
+unfolding scalar_of
 returns c = rw c.before.if1.true c.wide.ensures
 
 wide-requires-2 : tie.Need-wide-requires-2
@@ -20,7 +20,7 @@ joined-requires : tie.Need-joined-requires
 joined-requires c κs = search rules
 
 returns-2 : tie.Need-returns-2
-unfolding scalarOf
+unfolding scalar_of
 returns-2 c = rw c.before.before.if2.true (omega arith)
 
 wide-requires-3 : tie.Need-wide-requires-3
@@ -33,7 +33,7 @@ joined-requires-3 : tie.Need-joined-requires-3
 joined-requires-3 c κs = search rules
 
 returns-3 : tie.Need-returns-3
-unfolding scalarOf
+unfolding scalar_of
 returns-3 c = rw c.before.before.before.if3.true (omega arith)
 
 wide-requires-4 : tie.Need-wide-requires-4
@@ -49,7 +49,7 @@ joined-requires-6 : tie.Need-joined-requires-6
 joined-requires-6 c κs = search rules
 
 returns-4 : tie.Need-returns-4
-unfolding scalarOf
+unfolding scalar_of
 returns-4 c =
     let e = c.before.before.before.before in
     simp (ne_eqb _ 1 e.before.before.if1.false, ne_eqb _ 2 e.before.if2.false, ne_eqb _ 3 e.if3.false) (omega arith)

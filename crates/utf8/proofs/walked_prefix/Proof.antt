@@ -3,19 +3,19 @@ use Prim.Native.Nat.{◌+◌, ◌-◌, ◌≤◌}
 use mathlib.Core.Path.{◌≡◌, sym, ap, ◌∙◌}
 use native.Mathlib.Omega.{arith}
 use lib.ListN.{length, drop}
-use Rattle.utf8.specs.Chars.{chars, widths, validPrefix}
-use Rattle.utf8.proofs.Chars.{Stands, stands, ascii-stands, chars-bad, chars-end}
+use Rattle.utf8.specs.Chars.{chars, widths, valid_prefix}
+use Rattle.utf8.proofs.Chars.{Stands, stands, ascii_stands, chars_bad, chars-end}
 use Rattle.utf8.proofs.walked_prefix.Statement.{statement}
 use Rattle.utf8.proofs.walked_prefix.Tie as tie
 
 abbrev invariant-loop : tie.invariant-loop
-invariant-loop s at₀ at = (at ≤ length s) × (at + widths (chars (drop at s)) ≡ validPrefix s)
+invariant-loop s at₀ at = (at ≤ length s) × (at + widths (chars (drop at s)) ≡ valid_prefix s)
 
 abbrev decreases-loop : tie.decreases-loop
 decreases-loop s at₀ at = length s - at
 
 loop-holds : tie.Need-loop-init invariant-loop decreases-loop
-unfolding validPrefix
+unfolding valid_prefix
 loop-holds c = (omega arith, omega arith)
 
 shared-slice-read-if1 : tie.Need-shared-slice-read-if1 invariant-loop decreases-loop
@@ -31,7 +31,7 @@ loop-again : tie.Need-loop-preserved invariant-loop decreases-loop
 unfolding widths
 loop-again c =
     let k = c.before.before.before in
-    omega (arith, ap widths (ascii-stands k.before.before.args.s.now k.loop.at c.before.before.loop-test.true c.if1.true).first)
+    omega (arith, ap widths (ascii_stands k.before.before.args.s.now k.loop.at c.before.before.loop-test.true c.if1.true).first)
 
 by-row-requires : tie.Need-by-row-requires invariant-loop decreases-loop
 by-row-requires c κs = omega arith
@@ -62,7 +62,7 @@ enum_told c = c.match.keys2
 
 returns : tie.Need-returns invariant-loop decreases-loop
 unfolding widths
-returns c = omega (arith, ap widths (chars-bad _ (sym c.before.before.by_Row.ensures ∙ c.enum_told.given.1)))
+returns c = omega (arith, ap widths (chars_bad _ (sym c.before.before.by_Row.ensures ∙ c.enum_told.given.1)))
 
 returns-2 : tie.Need-returns-2 invariant-loop decreases-loop
 unfolding widths

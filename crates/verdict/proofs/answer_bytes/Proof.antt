@@ -1,5 +1,5 @@
 -- `verdict::answer_bytes` meets its contract: the four numbers are the answer's, and the array is their bytes in the definition's order.
-use Rattle.verdict.specs.Verdict.{answerBytes}
+use Rattle.verdict.specs.Verdict.{answer_bytes}
 use borrow.Author.Rules.{rules}
 use Rattle.verdict.proofs.answer_bytes.Statement.{statement}
 use Rattle.verdict.proofs.answer_bytes.Tie as tie
@@ -47,7 +47,7 @@ array-read-t35 : tie.Need-array-read-t35
 array-read-t35 c = search rules
 
 returns : tie.Need-returns
-unfolding answerBytes
+unfolding answer_bytes
 returns c = simp (c.number.ensures, c.before.eight.ensures, c.before.before.value.ensures, c.before.before.before.place.ensures)
 
 pub answer-bytes-spec : {M : Type 1} → statement M

@@ -4,12 +4,12 @@ use native.Mathlib.Omega.{arith}
 use borrow.Author.Rules.{rules}
 use borrow.Author.Tests.{lt-ltb, le-ltb}
 use Rattle.record.proofs.Numbers.{number-most, part-read}
-use Rattle.verdict.specs.Verdict.{readVerdict}
+use Rattle.verdict.specs.Verdict.{read_verdict}
 use Rattle.verdict.proofs.read_verdict.Statement.{statement}
 use Rattle.verdict.proofs.read_verdict.Tie as tie
 
 returns : tie.Need-returns
-unfolding readVerdict
+unfolding read_verdict
 returns c = simp (lt-ltb _ _ c.if1.true)
 
 sub-read-number : tie.Need-overflow-sub-read-number
@@ -76,7 +76,7 @@ read-number-requires-4 : tie.Need-read-number-requires-4
 read-number-requires-4 c κs = search rules
 
 returns-2 : tie.Need-returns-2
-unfolding readVerdict
+unfolding read_verdict
 returns-2 c =
     let p = c.before.before in
     let k = p.before.before.before in

@@ -1,5 +1,5 @@
 -- `verdict::verdict_bytes` meets its contract: the array is the verdict's parts, in the definition's order.
-use Rattle.verdict.specs.Verdict.{answerBytes, verdict}
+use Rattle.verdict.specs.Verdict.{answer_bytes, verdict}
 use borrow.Author.Rules.{rules}
 use Rattle.verdict.proofs.verdict_bytes.Statement.{statement}
 use Rattle.verdict.proofs.verdict_bytes.Tie as tie
@@ -83,7 +83,7 @@ array-read-t74 : tie.Need-array-read-t74
 array-read-t74 c = search rules
 
 returns : tie.Need-returns
-unfolding verdict answerBytes
+unfolding verdict answer_bytes
 returns c = simp (c.answer-bytes.ensures, c.before.eight.ensures)
 
 pub verdict-bytes-spec : {M : Type 1} → statement M

@@ -1,6 +1,6 @@
 -- `answer::Step::or_accept` meets its contract: the answer follows the step's two cases.
 use borrow.Author.Rules.{rules}
-use Rattle.answer.specs.Steps.{◌orAccept◌}
+use Rattle.answer.specs.Steps.{◌or_accept◌}
 use Rattle.answer.proofs.Step.or_accept.Statement.{statement}
 use Rattle.answer.proofs.Step.or_accept.Tie as tie
 
@@ -11,11 +11,11 @@ enum-known-self : tie.Need-enum-known-self
 enum-known-self c = search rules
 
 returns : tie.Need-returns
-unfolding ◌orAccept◌
+unfolding ◌or_accept◌
 returns c = rw c.enum_told.given.1
 
 returns-2 : tie.Need-returns-2
-unfolding ◌orAccept◌
+unfolding ◌or_accept◌
 returns-2 c = rw c.before.self.given.1
 
 pub or-accept-spec : {M : Type 1} → statement M

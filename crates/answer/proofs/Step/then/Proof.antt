@@ -1,6 +1,6 @@
 -- `answer::Step::then` meets its contract: where the step passes the chain says what the next step says, and where it stops the chain stops with it.
 use borrow.Author.Rules.{rules}
-use Rattle.answer.specs.Steps.{◌andThen◌}
+use Rattle.answer.specs.Steps.{◌and_then◌}
 use Rattle.answer.proofs.Step.then.Statement.{statement}
 use Rattle.answer.proofs.Step.then.Tie as tie
 
@@ -11,11 +11,11 @@ enum-known-self : tie.Need-enum-known-self
 enum-known-self c = search rules
 
 returns : tie.Need-returns
-unfolding ◌andThen◌
+unfolding ◌and_then◌
 returns c = rw c.enum_told.given.1
 
 returns-2 : tie.Need-returns-2
-unfolding ◌andThen◌
+unfolding ◌and_then◌
 returns-2 c = rw c.before.self.given.1
 
 pub then-spec : {M : Type 1} → statement M
