@@ -1,4 +1,6 @@
 // Amounts, kind 6: one `+` or none, up to 18 digits, and after a `.` one to 5 more, not all of them zero.
+#![tactic(auto)]
+
 ghost use Rattle.std.specs.Prelude.{◌≡◌, ◌-◌, ◌<◌};
 ghost use Rattle.amount.specs.Amount.{start, at_most, part, fraction, no_minus, all_zero, not_zero, validate_amount};
 

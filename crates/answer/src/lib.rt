@@ -1,10 +1,12 @@
 // What a check of a field answers: acceptance with a number, or a refusal with its reason and the step that gave it.
+#![tactic(auto)]
+
 ghost use Rattle.std.specs.Prelude.{◌≡◌};
 ghost use Rattle.answer.specs.Table.{row, row_of, numbers_of, number_of, place_of, value_of, check_of};
 ghost use Rattle.answer.specs.Steps.{◌and_then◌, ◌or_accept◌};
 
 // One case for each refusal of SCOPE's answer table, with the place and the number that it can have, and nothing else.
-#[derive(Drop)]
+#[derive(Clone, Copy)]
 pub enum Reason {
     NotUtf8 { place: usize },
     Length { place: usize, count: u64 },
@@ -24,21 +26,21 @@ pub enum Reason {
 }
 
 // A refusal carries the check number of its step (docs/CHECKS.md).
-#[derive(Drop)]
+#[derive(Clone, Copy)]
 pub enum Answer {
     Accepted(u64),
     Refused(Reason, u32),
 }
 
 // What one step of a rule says: go on, or stop with a reason and the step's check number.
-#[derive(Drop)]
+#[derive(Clone, Copy)]
 pub enum Step {
     Pass,
     Stop(Reason, u32),
 }
 
 // The three numbers of an answer: SCOPE's number of it, the place to look at, and what belongs to it.
-#[derive(Drop)]
+#[derive(Clone, Copy)]
 pub struct Numbers {
     pub number: u8,
     pub place: usize,

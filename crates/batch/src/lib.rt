@@ -1,5 +1,7 @@
 // A batch of records is judged: what a call does before each record, and the call that judges record after record. What a record is stands in
 // `record`, what is written for it in `verdict`, and what a field's answer is in `field`.
+#![tactic(auto)]
+
 ghost use Rattle.std.specs.Prelude.{◌≡◌, ◌++◌, ◌+◌, ◌-◌, ◌≤◌, length, take, drop};
 ghost use Rattle.record.specs.Head.{head_of};
 ghost use Rattle.verdict.specs.Verdict.{verdict_size, verdict};
@@ -10,7 +12,7 @@ use answer::Answer;
 use record::Head;
 
 // Why a call stopped.
-#[derive(Drop)]
+#[derive(Clone, Copy)]
 pub enum Stop {
     Finished,
     Budget,
@@ -37,14 +39,14 @@ impl Stop {
 }
 
 // What a call does next: it stops, or judges the record that stands there.
-#[derive(Drop)]
+#[derive(Clone, Copy)]
 pub enum Act {
     Stops(Stop),
     Judges { kind: u16, length: usize },
 }
 
 // What a call answers: why it stopped, records judged, bytes of the batch read, bytes of the output written.
-#[derive(Drop)]
+#[derive(Clone, Copy)]
 pub struct Ran {
     pub stop: Stop,
     pub judged: u64,

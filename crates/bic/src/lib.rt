@@ -1,4 +1,6 @@
 // Kind 3, the business identifier code.
+#![tactic(auto)]
+
 ghost use Rattle.std.specs.Prelude.{◌≡◌};
 ghost use Rattle.bic.specs.Bic.{bic_length, bic_answer};
 

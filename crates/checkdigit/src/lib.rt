@@ -1,4 +1,6 @@
 // ISO 7064 MOD 97-10 over the characters of a text: the running remainder, that of an LEI and of an IBAN, and the check digits.
+#![tactic(auto)]
+
 ghost use Rattle.std.specs.Prelude.{◌≡◌, [], ◌∷◌, ◌<◌, ◌^◌, ◌%◌, length};
 ghost use Rattle.checkdigit.specs.Letter.{letter_value};
 ghost use Rattle.checkdigit.specs.Sum.{character_value, character_digits, number_after, continued, remainder_of, iban_remainder, Remains};

@@ -1,4 +1,6 @@
 // Codes of capital letters that stand on a list: what the rules of kinds 7 and 8 share.
+#![tactic(auto)]
+
 ghost use Rattle.std.specs.Prelude.{◌≡◌, ◌+◌, ◌*◌};
 ghost use Rattle.answer.specs.Steps.{check, must, ◌or_accept◌};
 ghost use Rattle.answer.specs.declared.Reason.TheVariants.{NotListed};

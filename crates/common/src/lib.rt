@@ -1,4 +1,6 @@
 // Cents of an amount, kinds 9 (strict) and 10 (lenient): a whole number, and after a `.` its hundredths.
+#![tactic(auto)]
+
 ghost use Rattle.std.specs.Prelude.{◌≡◌, ◌+◌, ◌*◌, ◌≤◌, length};
 ghost use Rattle.answer.specs.Steps.{◌and_then◌, ◌or_accept◌};
 ghost use Rattle.answer.specs.declared.Reason.{Reason};
@@ -25,7 +27,7 @@ use answer::{Answer, Reason, Step};
 use text::Set;
 
 // What reading a part gives: its number, or the refusal of the step that failed.
-#[derive(Drop)]
+#[derive(Clone, Copy)]
 enum Parsed {
     Is(u64),
     Not(Reason, u32),

@@ -1,4 +1,6 @@
 // Kind 7: a country's code.
+#![tactic(auto)]
+
 ghost use Rattle.std.specs.Prelude.{◌≡◌, map};
 ghost use Rattle.codes.specs.Codes.{packed, among};
 ghost use Rattle.country.specs.Country.{countries, country_answer};

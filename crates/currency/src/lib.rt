@@ -1,4 +1,6 @@
 // Kind 8: a currency's code.
+#![tactic(auto)]
+
 ghost use Rattle.std.specs.Prelude.{◌≡◌, map};
 ghost use Rattle.codes.specs.Codes.{packed, among};
 ghost use Rattle.currency.specs.Currency.{currencies, currency_answer};

@@ -1,4 +1,6 @@
 // Kinds 4 and 5: the date and the datetime of ISO 8601 in the form that ISO 20022 uses.
+#![tactic(auto)]
+
 ghost use Rattle.std.specs.Prelude.{◌≡◌, ◌≤◌, length};
 ghost use Rattle.datetime.specs.Date.{date_part, date_answer};
 ghost use Rattle.datetime.specs.Datetime.{

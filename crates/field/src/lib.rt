@@ -1,4 +1,6 @@
 // The check of one field: the choice on the kind, with the steps that every field passes before its rule.
+#![tactic(auto)]
+
 ghost use Rattle.std.specs.Prelude.{◌≡◌};
 ghost use Rattle.field.specs.Field.{limit_step, rule_of, check_field};
 ghost use Rattle.field.specs.Inner.{utf8_step, before_rule, after_rule, Suits};
@@ -10,7 +12,7 @@ pub const FIELD_LIMIT: usize = 4096;
 
 // The order in which the steps of a kind's check are asked. SCOPE's order for a field is 12, 11, 1, then the rule's steps; any order that gives
 // the same answers will do, and the quickest is taken.
-#[derive(Drop)]
+#[derive(Clone, Copy)]
 enum Way {
     // The kind's rule accepts ASCII only, which is UTF-8: the rule is asked first, and only a field that it refuses is looked at for UTF-8.
     RuleFirst,

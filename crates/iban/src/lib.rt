@@ -1,4 +1,6 @@
 // Kind 1: an international bank account number (IBAN), ISO 13616, in a field with blanks of any width.
+#![tactic(auto)]
+
 ghost use Rattle.std.specs.Prelude.{◌≡◌, true, [], set};
 ghost use Rattle.answer.specs.declared.Reason.{Reason};
 ghost use Rattle.answer.specs.declared.Step.{Step};
@@ -14,7 +16,7 @@ use utf8::Decoded;
 
 // What every step but the remainder says of a field; and where all of them pass, the IBAN in electronic format, that is, without blanks: its
 // characters, their count, and zeros past the last of them.
-#[derive(Drop)]
+#[derive(Clone, Copy)]
 pub struct Electronic {
     pub step: Step,
     pub count: usize,

@@ -1,4 +1,6 @@
 // The program: reads a batch from standard input and writes its verdicts as text. Its argument is the stream offset of the first byte.
+#![tactic(auto)]
+
 use report::Offset;
 
 fn refuse() {

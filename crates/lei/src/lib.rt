@@ -1,4 +1,6 @@
 // Kind 2: a legal entity identifier (LEI), ISO 17442.
+#![tactic(auto)]
+
 ghost use Rattle.std.specs.Prelude.{◌≡◌};
 ghost use Rattle.lei.specs.Lei.{lei_characters, lei_answer};
 

@@ -1,5 +1,7 @@
 // Records in bytes: numbers written in bytes, the lowest byte first, and the head that each record of a batch begins with. What a record is
 // judged by stands in `batch`; whoever walks over records reads their heads here.
+#![tactic(auto)]
+
 ghost use Rattle.std.specs.Prelude.{◌≡◌, ◌+◌, ◌≤◌, length, take};
 ghost use Rattle.record.specs.Number.{to_bytes, from_bytes, little_at};
 ghost use Rattle.record.specs.Head.{head_of};
@@ -9,7 +11,7 @@ pub const HEAD_LIMIT: usize = 8192;
 
 // What stands at the start of the rest of a batch: nothing, fewer bytes than a head has, a length above the limit, a value cut
 // short, or a whole record.
-#[derive(Drop)]
+#[derive(Clone, Copy)]
 pub enum Head {
     End,
     Short,

@@ -1,4 +1,6 @@
 // Repairs of a sheet: a byte replaced, two characters exchanged, the check digits filled in.
+#![tactic(auto)]
+
 ghost use Rattle.std.specs.Prelude.{◌≡◌, set};
 ghost use Rattle.checkdigit.specs.Sum.{exchanged};
 ghost use Rattle.checkdigit.specs.Fill.{stamped};
@@ -11,7 +13,7 @@ use sheet::{Repaired, Sheet};
 use text::Set;
 
 // A byte at a place; the characters of two places; the check digits.
-#[derive(Drop)]
+#[derive(Clone, Copy)]
 pub enum Request {
     Replace { place: usize, byte: u8 },
     Exchange { i: usize, j: usize },

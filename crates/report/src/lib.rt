@@ -1,4 +1,6 @@
 // The program's text: the heading, verdicts as lines, the last line, and its argument. No input and no output.
+#![tactic(auto)]
+
 ghost use Rattle.std.specs.Prelude.{◌≡◌, ◌+◌, ◌≤◌, [], ◌∷◌, length};
 ghost use Rattle.report.specs.Digits.{decimal_digits};
 ghost use Rattle.report.specs.Text.{
@@ -24,14 +26,14 @@ pub const LINE_MOST: usize = 58;
 const LAST_MOST: usize = 80;
 
 // How many verdicts have their lines in a buffer, and the bytes of these lines.
-#[derive(Drop)]
+#[derive(Clone, Copy)]
 pub struct Rendered {
     pub verdicts: usize,
     pub written: usize,
 }
 
 // The number below 2^64 that an argument writes, or none.
-#[derive(Drop)]
+#[derive(Clone, Copy)]
 pub enum Offset {
     Is(u64),
     Not,

@@ -5,6 +5,8 @@
 // a write takes, so each function says what it handed over: the lines stand at the start of `text`, the bytes that came at the end of
 // what `buf` holds, and how many there are of each comes from `write_out` and `read_some`. `step` says that each turn adds both to what
 // went before, and proofs/Promises.antt that in the end all the lines are what SCOPE asks for all the bytes.
+#![tactic(auto)]
+
 ghost use Rattle.std.specs.Prelude.{◌≡◌, ◌+◌, ◌≤◌, ◌<◌, length, take, drop};
 ghost use Rattle.report.specs.Text.{last_most};
 ghost use Rattle.service.specs.Run.{way_after, Good, TurnAdds, Served, Closing};
@@ -16,7 +18,7 @@ use batch::Stop;
 const RECORDS: usize = 1024;
 
 // What follows a stop: another call, more input, or the end.
-#[derive(Drop)]
+#[derive(Clone, Copy)]
 enum Way {
     Again,
     Read,
@@ -24,7 +26,7 @@ enum Way {
 }
 
 // What follows a turn: another turn, the last line, or nothing, since input or output failed.
-#[derive(Drop)]
+#[derive(Clone, Copy)]
 enum Ahead {
     Turn,
     LastLine,
@@ -33,7 +35,7 @@ enum Ahead {
 
 // The buffer's bytes from `at` up to `end` are held: they came in and are not judged yet. `offset` is the stream offset of the first of
 // them, `start` that of the input's first byte; `judged` counts the records so far, and `stop` is why the last call stopped.
-#[derive(Drop)]
+#[derive(Clone, Copy)]
 struct State {
     at: usize,
     end: usize,
@@ -44,7 +46,7 @@ struct State {
 }
 
 // A state after a call, and how much of the text buffer its lines take.
-#[derive(Drop)]
+#[derive(Clone, Copy)]
 struct Judged {
     s: State,
     text: usize,
@@ -52,7 +54,7 @@ struct Judged {
 
 // A state, what follows, and what the turn before it did: the first `wrote` bytes of the text were handed to a write, and the last
 // `came` bytes that are held came in by a read.
-#[derive(Drop)]
+#[derive(Clone, Copy)]
 struct Next {
     s: State,
     ahead: Ahead,
@@ -61,7 +63,7 @@ struct Next {
 }
 
 // How many bytes were handed to a write, and whether it took them all.
-#[derive(Drop)]
+#[derive(Clone, Copy)]
 struct Written {
     size: usize,
     whole: bool,

@@ -1,4 +1,6 @@
 // The sheet: an IBAN or an LEI held by value between repairs, and its load.
+#![tactic(auto)]
+
 ghost use Rattle.std.specs.Prelude.{◌≡◌, take};
 ghost use Rattle.answer.specs.declared.Step.{Step};
 ghost use Rattle.answer.specs.declared.Reason.{Reason};
@@ -11,7 +13,7 @@ ghost use Rattle.sheet.specs.Inner.{sheet_with};
 use answer::{Answer, Reason, Step};
 
 // The text stands in the first `length` bytes, and those past it are zero.
-#[derive(Drop)]
+#[derive(Clone, Copy)]
 pub struct Sheet {
     pub kind: u16,
     pub length: usize,
@@ -19,7 +21,7 @@ pub struct Sheet {
     pub text: [u8; 34],
 }
 
-#[derive(Drop)]
+#[derive(Clone, Copy)]
 pub struct Repaired {
     pub answer: Answer,
     pub sheet: Sheet,

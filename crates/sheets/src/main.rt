@@ -1,5 +1,7 @@
 // Loads, repairs and fills worked sheets, forged ones among them, and writes each answer (number, place, value) and sheet (kind, length,
 // remainder, text) in a line.
+#![tactic(auto)]
+
 use libc::STDOUT_FILENO;
 use sheet::{Repaired, Sheet};
 

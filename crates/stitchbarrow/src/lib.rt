@@ -1,4 +1,6 @@
 // The interface for C and other languages: functions over numbers and lent slices, as include/stitchbarrow.h declares them.
+#![tactic(auto)]
+
 ghost use Rattle.std.specs.Prelude.{◌≡◌, ◌++◌, ◌≤◌, length, drop};
 ghost use Rattle.sheet.specs.Load.{load_of};
 ghost use Rattle.repairs.specs.Repairs.{repair_of};
@@ -21,7 +23,7 @@ use repairs::Request;
 use sheet::{Repaired, Sheet};
 
 // What is asked of a sheet: to load a field of a kind, or to be repaired.
-#[derive(Drop)]
+#[derive(Clone, Copy)]
 enum Call {
     Load { kind: u16 },
     Repair { request: Request },

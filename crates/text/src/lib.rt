@@ -1,4 +1,6 @@
 // Bytes of a field: their classes, the numbers that digits write, and the steps that the rules share.
+#![tactic(auto)]
+
 ghost use Rattle.std.specs.Prelude.{◌≡◌, ◌+◌, ◌*◌, ◌^◌, ◌<◌, ◌≤◌, eqb, ltb, length, get_or, take, drop};
 ghost use Rattle.text.specs.Ranges.{within};
 ghost use Rattle.text.specs.Class.{class_of, holds, allowed};
@@ -18,7 +20,7 @@ ghost use Rattle.text.specs.Field.{
 
 use answer::{Reason, Step};
 
-#[derive(Drop)]
+#[derive(Clone, Copy)]
 pub enum Class {
     Digit,
     Capital,
@@ -27,7 +29,7 @@ pub enum Class {
 }
 
 // The sets of bytes that the rules allow at a place.
-#[derive(Drop)]
+#[derive(Clone, Copy)]
 pub enum Set {
     Digits,
     Capitals,
@@ -37,7 +39,7 @@ pub enum Set {
 }
 
 // A number that digits write, where it is below 2^64.
-#[derive(Drop)]
+#[derive(Clone, Copy)]
 pub enum Number {
     Fits(u64),
     Over,

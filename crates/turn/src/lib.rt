@@ -1,11 +1,13 @@
 // One turn of the program: a call on the bytes at hand, and the lines of its verdicts. No input and no output.
+#![tactic(auto)]
+
 ghost use Rattle.std.specs.Prelude.{◌≡◌};
 ghost use Rattle.turn.specs.Turn.{room_of, turn_of, turning_of};
 
 use batch::Stop;
 
 // Why the call stopped, records judged, bytes read, and bytes of text written.
-#[derive(Drop)]
+#[derive(Clone, Copy)]
 pub struct Turned {
     pub stop: Stop,
     pub judged: u64,

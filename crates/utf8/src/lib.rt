@@ -1,18 +1,20 @@
 // UTF-8 as RFC 3629 defines it: the character at a place, the longest well-formed prefix, ASCII texts; and Unicode's White_Space.
+#![tactic(auto)]
+
 ghost use Rattle.std.specs.Prelude.{◌≡◌, ◌+◌, ◌*◌, ◌%◌, ◌^◌, ◌<◌, ◌≤◌, ltb, length, take, drop};
 ghost use Rattle.utf8.specs.Rfc3629.{lead, lead_of, needed, well_formed, scalar_of, front};
 ghost use Rattle.utf8.specs.Chars.{ascii, valid_prefix};
 ghost use Rattle.utf8.specs.Space.{white_space};
 
 // What a first byte says: the width of its character (0: no character starts with it) and the range of the second byte.
-#[derive(Drop)]
+#[derive(Clone, Copy)]
 pub struct Lead {
     pub width: usize,
     pub low: u8,
     pub high: u8,
 }
 
-#[derive(Drop)]
+#[derive(Clone, Copy)]
 pub enum Decoded {
     // A character: its scalar value, and its width in bytes, 1 to 4.
     Char { scalar: u32, width: usize },

@@ -1,5 +1,7 @@
 // Replays a fixed list of answers from standard input, and says how many differ.
 // A line is a kind, the answer, its place and number, and the field in hexadecimal; answer 255 is a refusal for whatever reason.
+#![tactic(auto)]
+
 ghost use Rattle.std.specs.Prelude.{◌≤◌, ◌<◌, length};
 
 use answer::Answer;
@@ -8,7 +10,7 @@ use text::Number;
 const ANY_REFUSAL: u64 = 255;
 
 // What a line expects.
-#[derive(Drop)]
+#[derive(Clone, Copy)]
 struct Expected {
     answer: u64,
     place: u64,
@@ -16,7 +18,7 @@ struct Expected {
 }
 
 // A line that was replayed: where the next one starts, and whether the answer is the one expected.
-#[derive(Drop)]
+#[derive(Clone, Copy)]
 struct Replayed {
     next: usize,
     same: bool,
@@ -136,7 +138,7 @@ fn after(s: &[u8], from: usize, end: usize) -> usize
 }
 
 // How many lines there are, and how many of them differ.
-#[derive(Drop)]
+#[derive(Clone, Copy)]
 struct Tally {
     count: u64,
     differ: u64,

@@ -1,4 +1,6 @@
 // A verdict: what a call writes for each record. Its bytes are put together and read back here, and nobody else knows their places.
+#![tactic(auto)]
+
 ghost use Rattle.std.specs.Prelude.{◌≡◌};
 ghost use Rattle.verdict.specs.Verdict.{answer_bytes, verdict, read_verdict};
 
@@ -8,7 +10,7 @@ use answer::Answer;
 pub const VERDICT_SIZE: usize = 24;
 
 // What a verdict says of its record: the stream offset, the kind, and the three numbers of the answer.
-#[derive(Drop)]
+#[derive(Clone, Copy)]
 pub struct Verdict {
     pub offset: u64,
     pub kind: u16,

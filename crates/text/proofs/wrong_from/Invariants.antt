@@ -1,0 +1,18 @@
+-- `text::wrong_from` meets its contract. The invariant: the search from i over what is left gives what the whole search gives.
+-- An allowed byte stands inside the field, so the next place fits. The measure is what is left.
+use lib.ListN.{length, get_or}
+use Prim.Native.Nat.{◌<◌, ◌-◌}
+use mathlib.Core.Path.{◌≡◌, refl, sym, ◌∙◌}
+use mathlib.Core.Bool.{true}
+use native.Mathlib.Omega.{arith}
+use borrow.Author.Rules.{rules}
+use Rattle.text.proofs.Fields.{allowed-inside, wrong_on, wrong_here, wrong_none}
+use Rattle.text.specs.Class.{allowed}
+use Rattle.text.specs.Field.{wrong_from}
+use Rattle.text.proofs.wrong_from.Given as goal
+
+abbrev pub invariant-loop-left : goal.invariant-loop-left
+invariant-loop-left l = wrong_from l.set l.s l.from l.n l.check ≡ wrong_from l.set l.s l.i l.left l.check
+
+abbrev pub decreases-loop-left : goal.decreases-loop-left
+decreases-loop-left l = l.left
