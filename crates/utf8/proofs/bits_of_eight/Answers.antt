@@ -1,6 +1,5 @@
 -- `utf8::bits_of_eight` meets its contract.
 use native.Mathlib.Omega.{arith}
-use borrow.Author.Rules.{rules}
 use Rattle.utf8.proofs.Ascii.{ascii_eight}
 use Rattle.utf8.proofs.bits_of_eight.Goals as goal
 

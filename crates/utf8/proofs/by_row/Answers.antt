@@ -1,7 +1,6 @@
 -- `utf8::by_row` meets its contract: the bytes that were read are those by which `front` decides.
 use mathlib.Core.Path.{refl}
 use Rattle.utf8.proofs.Chars.{decodes, decodes_not}
-use borrow.Author.Rules.{rules}
 use Rattle.utf8.proofs.by_row.Goals as goal
 
 pub returns-then-well_formed : goal.returns-then-well_formed

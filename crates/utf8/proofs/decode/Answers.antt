@@ -3,7 +3,6 @@ use mathlib.Core.Path.{refl}
 use lib.ListN.{drop_of_length-le}
 use Rattle.utf8.specs.Rfc3629.{front}
 use Rattle.utf8.proofs.Chars.{ascii-at}
-use borrow.Author.Rules.{rules}
 use Rattle.utf8.proofs.decode.Goals as goal
 
 pub returns-then-s-at : goal.returns-then-s-at
@@ -13,6 +12,3 @@ returns-then-s-at c = rw (drop_of_length-le _ c.if-s-at.true)
 pub returns-then-a-lt128 : goal.returns-then-a-lt128
 returns-then-a-lt128 c =
     ascii-at c.args.s.now c.args.at _ _ c.if-s-at.false refl c.if-a-lt128.true c.wide.ensures
-
-pub returns : goal.returns
-returns c = c.by_row.ensures

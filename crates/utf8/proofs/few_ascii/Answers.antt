@@ -1,17 +1,8 @@
 -- `utf8::few_ascii` meets its contract. The loop's invariant: the bits so far and the bytes that are left say whether the text is ASCII.
-use Prim.Native.Nat.{◌-◌, ◌≤◌}
-use mathlib.Core.Path.{◌≡◌, refl, sym, ◌∙◌}
+use mathlib.Core.Path.{sym, ◌∙◌}
 use native.Mathlib.Omega.{arith}
-use borrow.Author.Rules.{rules}
-use lib.Dec.{ltb}
-use lib.ListN.{length, drop}
-use mathlib.Core.Bool.{◌&&◌}
-use Rattle.utf8.specs.Chars.{ascii}
 use Rattle.utf8.proofs.Ascii.{ascii_more, ascii-done}
 use Rattle.utf8.proofs.few_ascii.Goals as goal
-
-pub loop-i-init : goal.loop-i-init
-loop-i-init c = (omega arith, refl)
 
 pub loop-i-preserved : goal.loop-i-preserved
 loop-i-preserved c =

@@ -1,13 +1,10 @@
--- `utf8::few_ascii` meets its contract. The loop's invariant: the bits so far and the bytes that are left say whether the text is ASCII.
+-- `utf8::few_ascii`'s loop. The invariant: the bits so far and the bytes that are left say whether the text is ASCII. The measure is what is left.
 use Prim.Native.Nat.{◌-◌, ◌≤◌}
-use mathlib.Core.Path.{◌≡◌, refl, sym, ◌∙◌}
-use native.Mathlib.Omega.{arith}
-use borrow.Author.Rules.{rules}
+use mathlib.Core.Path.{◌≡◌}
 use lib.Dec.{ltb}
 use lib.ListN.{length, drop}
 use mathlib.Core.Bool.{◌&&◌}
 use Rattle.utf8.specs.Chars.{ascii}
-use Rattle.utf8.proofs.Ascii.{ascii_more, ascii-done}
 use Rattle.utf8.proofs.few_ascii.Given as goal
 
 abbrev pub invariant-loop-i : goal.invariant-loop-i

@@ -1,14 +1,9 @@
--- `utf8::is_ascii` meets its contract. The loop's invariant: the bytes before the place are ASCII.
+-- `utf8::is_ascii`'s loop. The invariant: the bytes before the place are ASCII. The measure is what is left.
 use Prim.Native.Nat.{◌+◌, ◌-◌, ◌≤◌}
-use mathlib.Core.Path.{◌≡◌, refl, sym, ◌∙◌, ap}
+use mathlib.Core.Path.{◌≡◌}
 use mathlib.Core.Bool.{true}
-use native.Mathlib.Omega.{arith}
-use borrow.Author.Rules.{rules}
-use borrow.Author.Tests.{lt-ltb, le-ltb}
-use lib.ListN.{length, take, drop, length-drop}
-use lib.Seq.{take_all}
+use lib.ListN.{length, take}
 use Rattle.utf8.specs.Chars.{ascii}
-use Rattle.utf8.proofs.Ascii.{ascii-part, ascii_not, ascii-last}
 use Rattle.utf8.proofs.is_ascii.Given as goal
 
 abbrev pub invariant-loop-i : goal.invariant-loop-i

@@ -42,6 +42,6 @@ returns-in_default c =
     let a = c.args.a in
     c.new-in_default.ensures ∙ sym
     (elim c.in_default.branch [
-      in_default-via-then-a-lt194 w ↦ led 0x80 0xC1 a (omega arith) (omega arith) tt
+      | in_default-via-then-a-lt194 w ↦ led 0x80 0xC1 a (omega arith) (omega arith) tt
       | in_default-via-else-a-lt194+else-a-lt224+else-a-lt237+else-a-lt240+else-a-lt244 w ↦ led 0xF5 0xFF a (omega arith) (omega arith) tt
     ])

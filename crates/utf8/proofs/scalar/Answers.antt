@@ -2,7 +2,6 @@
 use native.Mathlib.Omega.{arith}
 use borrow.Author.Tests.{ne_eqb}
 use Rattle.utf8.specs.Rfc3629.{scalar_of}
-use borrow.Author.Rules.{rules}
 use Rattle.utf8.proofs.scalar.Goals as goal
 
 pub returns-then-w-eq1 : goal.returns-then-w-eq1

@@ -1,6 +1,5 @@
 -- `utf8::valid_prefix` meets its contract: an ASCII text is its own prefix, and any other is walked.
 use mathlib.Core.Path.{sym, ◌∙◌}
-use borrow.Author.Rules.{rules}
 use Rattle.utf8.proofs.Ascii.{ascii_prefix}
 use Rattle.utf8.proofs.valid_prefix.Goals as goal
 

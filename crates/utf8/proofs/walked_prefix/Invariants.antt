@@ -1,10 +1,8 @@
--- `utf8::walked_prefix` meets its contract. The loop's invariant: what is passed, and the width of the characters that start where it stands, are the whole prefix.
+-- `utf8::walked_prefix`'s loop. The invariant: what is passed, and the width of the characters that start where it stands, are the whole prefix. The measure is what is left.
 use Prim.Native.Nat.{◌+◌, ◌-◌, ◌≤◌}
-use mathlib.Core.Path.{◌≡◌, sym, ap, ◌∙◌}
-use native.Mathlib.Omega.{arith}
+use mathlib.Core.Path.{◌≡◌}
 use lib.ListN.{length, drop}
 use Rattle.utf8.specs.Chars.{chars, widths, valid_prefix}
-use Rattle.utf8.proofs.Chars.{Stands, stands, ascii_stands, chars_bad, chars-end}
 use Rattle.utf8.proofs.walked_prefix.Given as goal
 
 abbrev pub invariant-loop-at : goal.invariant-loop-at

@@ -2,7 +2,6 @@
 use mathlib.Core.Path.{sym, ◌∙◌}
 use borrow.Author.Tests.{eq-eqb, ne_eqb}
 use Rattle.utf8.specs.Rfc3629.{well_formed}
-use borrow.Author.Rules.{rules}
 use Rattle.utf8.proofs.well_formed.Goals as goal
 
 pub returns-then-w-eq0 : goal.returns-then-w-eq0
