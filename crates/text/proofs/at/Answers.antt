@@ -1,6 +1,5 @@
 -- `text::at` meets its contract: past the end `get_or` gives its default.
 use mathlib.Core.Path.{sym}
-use borrow.Author.Rules.{rules}
 use lib.ListN.{get_or-eq_default}
 use Rattle.text.proofs.at.Goals as goal
 

@@ -1,6 +1,5 @@
 -- `text::digits_in` meets its contract: where the digits stand there they are inside the field and write a number below 10^4.
 use native.Mathlib.Omega.{arith}
-use borrow.Author.Rules.{rules}
 use Rattle.answer.specs.Steps.{◌and_then◌}
 use Rattle.text.specs.Field.{digits_in}
 use Rattle.text.proofs.Fields.{digits_there}

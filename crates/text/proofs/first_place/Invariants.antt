@@ -1,10 +1,8 @@
 -- `text::first_place` meets its contract. The invariant: the place is what was passed and the place from there on. The measure is what is left.
 use Prim.Native.Nat.{◌+◌, ◌-◌, ◌≤◌}
 use mathlib.Core.Path.{◌≡◌}
-use native.Mathlib.Omega.{arith}
 use lib.ListN.{length, drop}
 use Rattle.text.specs.Field.{first_place}
-use Rattle.text.proofs.Fields.{first_here, first_next, first-none}
 use Rattle.text.proofs.first_place.Given as goal
 
 abbrev pub invariant-loop-i : goal.invariant-loop-i

@@ -3,8 +3,7 @@ use Prim.Native.Nat.{ℕ, ◌+◌, ◌*◌, ◌^◌, ◌≤◌, ◌<◌}
 use mathlib.Core.Bool.{Bool, true, false}
 use mathlib.Core.Path.{◌≡◌, refl, sym}
 use native.Mathlib.Omega.{arith}
-use borrow.Author.Tests.{leb-true, leb-false, ltb-true, lt-ltb, le-ltb}
-use borrow.Author.Rules.{rules}
+use borrow.Author.Tests.{leb-true, leb-false, lt-ltb, le-ltb}
 use lib.Dec.{leb, ltb}
 use Rattle.text.proofs.has_room.Goals as goal
 
@@ -17,7 +16,7 @@ same a b c d f g = go (leb a b) refl
     go false e = sym (le-ltb c d (g (leb-false a b e)))
 
 pub returns-then-d-lt256 : goal.returns-then-d-lt256
-returns-then-d-lt256 c = sym (lt-ltb (c.args.n * 10 + c.args.d) (2 ^ 64) (omega (arith, ltb-true c.args.d 256 c.if-d-lt256.true)))
+returns-then-d-lt256 c = sym (lt-ltb (c.args.n * 10 + c.args.d) (2 ^ 64) (omega arith))
 
 pub returns-then-n-le1844674407370955161 : goal.returns-then-n-le1844674407370955161
 returns-then-n-le1844674407370955161 c = same c.args.d _ (c.args.n * 10 + c.args.d) (2 ^ 64) (λ h. omega arith) (λ h. omega arith)

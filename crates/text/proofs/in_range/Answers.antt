@@ -1,5 +1,4 @@
 -- `text::in_range` meets its contract: the test is the definition's.
-use borrow.Author.Rules.{rules}
 use Rattle.text.specs.Field.{in_range}
 use Rattle.text.proofs.in_range.Goals as goal
 

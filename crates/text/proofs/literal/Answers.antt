@@ -1,6 +1,5 @@
 -- `text::literal` meets its contract: the test is the definition's, on the byte that `at` reads.
 use borrow.Author.Tests.{eq-eqb, ne_eqb}
-use borrow.Author.Rules.{rules}
 use Rattle.text.specs.Field.{literal_at}
 use Rattle.text.proofs.literal.Goals as goal
 

@@ -1,10 +1,8 @@
 -- `text::number_of` meets its contract. The invariant: the number so far is that of the digits passed; digits that follow make it no smaller.
-use Prim.Native.Nat.{◌+◌, ◌*◌, ◌≤◌, ◌<◌, ◌-◌, ◌^◌}
+use Prim.Native.Nat.{◌+◌, ◌*◌}
 use mathlib.Core.Path.{◌∙◌, sym, ap, ◌≡◌}
 use lib.Seq.{take_all}
 use native.Mathlib.Omega.{arith}
-use borrow.Author.Rules.{rules}
-use lib.ListN.{length, take}
 use Rattle.text.proofs.Decimals.{number-none, number_more, number_grows, fits, over, fitted-is, over-is}
 use Rattle.text.specs.Decimal.{number_written}
 use Rattle.text.proofs.number_of.Goals as goal

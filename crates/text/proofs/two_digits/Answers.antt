@@ -1,8 +1,5 @@
 -- `text::two_digits` meets its contract: the first wrong digit, or the number that the two write. A digit stands inside the field, so the next place fits.
-use Prim.Native.Nat.{◌<◌}
 use native.Mathlib.Omega.{arith}
-use lib.ListN.{length}
-use borrow.Author.Rules.{rules}
 use Rattle.text.proofs.Fields.{digit_inside, pair_first, pair_second, pair_range}
 use Rattle.text.proofs.two_digits.Goals as goal
 

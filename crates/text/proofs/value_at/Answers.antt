@@ -1,24 +1,23 @@
 -- `text::value_at` meets its contract. The invariant: the value so far is that of the digits passed, which is at most the whole value.
 use lib.Seq.{take-take, get_or-drop}
 use lib.ListN.{take, drop, length-drop}
-use Prim.Native.Nat.{◌<◌, ◌≤◌, ◌-◌}
 use mathlib.Core.Path.{◌≡◌}
 use native.Mathlib.Omega.{arith}
-use borrow.Author.Rules.{rules}
 use Rattle.text.proofs.Decimals.{number-none, number_more, number_grows}
-use Rattle.text.specs.Decimal.{number_written}
 use Rattle.text.proofs.value_at.Goals as goal
 
 pub loop-k-init : goal.loop-k-init
 loop-k-init c = (omega arith, omega (arith, number-none))
 
 pub overflow_mul-v : goal.overflow_mul-v
-overflow_mul-v c = omega (arith, (let l = drop c.args.i c.args.s.now in
-    omega (arith, rw (take-take c.loop-k.k c.args.n l c.loop-k.invariant.0) at (number_grows c.loop-k.k (take c.args.n l)))))
+overflow_mul-v c =
+    let part = rw (take-take c.loop-k.k c.args.n (drop c.args.i c.args.s.now) c.loop-k.invariant.0) at (number_grows c.loop-k.k (take c.args.n (drop c.args.i c.args.s.now))) in
+    omega arith
 
 pub overflow_add-v : goal.overflow_add-v
-overflow_add-v c = omega (arith, (let l = drop c.args.i c.args.s.now in
-    omega (arith, rw (take-take c.loop-k.k c.args.n l c.loop-k.invariant.0) at (number_grows c.loop-k.k (take c.args.n l)))))
+overflow_add-v c =
+    let part = rw (take-take c.loop-k.k c.args.n (drop c.args.i c.args.s.now) c.loop-k.invariant.0) at (number_grows c.loop-k.k (take c.args.n (drop c.args.i c.args.s.now))) in
+    omega arith
 
 pub loop-k-preserved : goal.loop-k-preserved
 loop-k-preserved c =

@@ -1,11 +1,7 @@
 -- `text::value_at` meets its contract. The invariant: the value so far is that of the digits passed, which is at most the whole value.
-use lib.Seq.{take-take, get_or-drop}
-use lib.ListN.{take, drop, length-drop}
-use Prim.Native.Nat.{◌<◌, ◌≤◌, ◌-◌}
+use lib.ListN.{take, drop}
+use Prim.Native.Nat.{◌≤◌, ◌-◌}
 use mathlib.Core.Path.{◌≡◌}
-use native.Mathlib.Omega.{arith}
-use borrow.Author.Rules.{rules}
-use Rattle.text.proofs.Decimals.{number-none, number_more, number_grows}
 use Rattle.text.specs.Decimal.{number_written}
 use Rattle.text.proofs.value_at.Given as goal
 

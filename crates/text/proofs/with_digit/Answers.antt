@@ -1,9 +1,7 @@
 -- `text::with_digit` meets its contract: the number fits where there is room for the digit.
-use Prim.Native.Nat.{◌+◌, ◌*◌, ◌^◌, ◌≤◌, ◌<◌}
-use mathlib.Core.Path.{◌≡◌, sym, ◌∙◌}
+use mathlib.Core.Path.{sym, ◌∙◌}
 use native.Mathlib.Omega.{arith}
 use borrow.Author.Tests.{ltb-true, ltb-false}
-use borrow.Author.Rules.{rules}
 use Rattle.text.proofs.Decimals.{fits, over}
 use Rattle.text.proofs.with_digit.Goals as goal
 

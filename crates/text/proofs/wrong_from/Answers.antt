@@ -1,21 +1,21 @@
 -- `text::wrong_from` meets its contract. The invariant: the search from i over what is left gives what the whole search gives.
 -- An allowed byte stands inside the field, so the next place fits. The measure is what is left.
-use lib.ListN.{length, get_or}
-use Prim.Native.Nat.{◌<◌, ◌-◌}
+use lib.ListN.{get_or}
 use mathlib.Core.Path.{◌≡◌, refl, sym, ◌∙◌}
 use mathlib.Core.Bool.{true}
 use native.Mathlib.Omega.{arith}
-use borrow.Author.Rules.{rules}
 use Rattle.text.proofs.Fields.{allowed-inside, wrong_on, wrong_here, wrong_none}
 use Rattle.text.specs.Class.{allowed}
-use Rattle.text.specs.Field.{wrong_from}
 use Rattle.text.proofs.wrong_from.Goals as goal
 
 pub loop-left-init : goal.loop-left-init
 loop-left-init c = refl
 
+-- the byte at i is allowed
 pub overflow_add-i : goal.overflow_add-i
-overflow_add-i c = omega (arith, (allowed-inside c.args.set c.args.s.now c.¿loop-left?.i (rw ((rw (← c.at.ensures, ← c.allows.ensures) c.if-allows.true)) tt)))
+overflow_add-i c =
+    let good : allowed c.args.set (get_or c.args.s.now c.loop-left.i 0) ≡ true = rw (← c.at.ensures, ← c.allows.ensures) c.if-allows.true in
+    omega (arith, allowed-inside c.args.set c.args.s.now c.loop-left.i (rw good tt))
 
 pub loop-left-preserved : goal.loop-left-preserved
 loop-left-preserved c =

@@ -1,13 +1,6 @@
 -- `text::wrong_from` meets its contract. The invariant: the search from i over what is left gives what the whole search gives.
 -- An allowed byte stands inside the field, so the next place fits. The measure is what is left.
-use lib.ListN.{length, get_or}
-use Prim.Native.Nat.{◌<◌, ◌-◌}
-use mathlib.Core.Path.{◌≡◌, refl, sym, ◌∙◌}
-use mathlib.Core.Bool.{true}
-use native.Mathlib.Omega.{arith}
-use borrow.Author.Rules.{rules}
-use Rattle.text.proofs.Fields.{allowed-inside, wrong_on, wrong_here, wrong_none}
-use Rattle.text.specs.Class.{allowed}
+use mathlib.Core.Path.{◌≡◌}
 use Rattle.text.specs.Field.{wrong_from}
 use Rattle.text.proofs.wrong_from.Given as goal
 
