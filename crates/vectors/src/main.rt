@@ -161,7 +161,7 @@ fn replay_all(s: &[u8], value: &mut [u8]) -> Tally {
 
 fn main(rt: HostRuntime) -> io::Result<()> {
     let mut list = Vec::new(rt.alloc());
-    rt.reader().read_to_end(&mut list)?;
+    rt.stdin().read_to_end(&mut list)?;
     let mut value = [0u8; 4096];
     let t = replay_all(list.as_slice(), &mut value);
     let count = t.count;
