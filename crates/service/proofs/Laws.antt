@@ -262,7 +262,7 @@ nothing_is_turn e = let z : ◌≡◌ {A = ℕ} 0 1 = cc in absurd (omega arith)
 again_is_read : Again ≡ Read → ⊥
 again_is_read e = let z : ◌≡◌ {A = ℕ} 0 1 = cc in absurd (omega arith)
 
-end-is-read : End ≡ Read → ⊥
+pub end-is-read : End ≡ Read → ⊥
 end-is-read e = let z : ◌≡◌ {A = ℕ} 0 1 = cc in absurd (omega arith)
 
 -- bytes read in past those that are held, once these are at the front
@@ -456,7 +456,7 @@ pub record Going (start : ℕ) (buf₀ out₀ text₀ buf out text : List ℕ) (
   pub same_out : length out ≡ length out₀
   pub same_text : length text ≡ length text₀
 
-pub going_start : (start : ℕ) (buf out text : List ℕ) → start < 2 ^ 64 → Going start buf out text buf out text (first start)
+abbrev pub going_start : (start : ℕ) (buf out text : List ℕ) → start < 2 ^ 64 → Going start buf out text buf out text (first start)
 going_start start buf out text h =
     record { came = []; wrote = []; turns = begin buf; fits = h; same_buf = refl; same_out = refl; same_text = refl }
 
@@ -464,7 +464,7 @@ module _ (start : ℕ) (buf₀ out₀ text₀ buf out text : List ℕ) (n : Next
   pub going_good : Good buf n.s
   going_good = (turns-led g.turns).reached.good
 
-  pub going_on : (buf₁ out₁ text₁ : List ℕ) (m : Next) → n.ahead ≡ Turn → TurnAdds buf n.s buf₁ text₁ m → m.s.offset < 2 ^ 64
+  abbrev pub going_on : (buf₁ out₁ text₁ : List ℕ) (m : Next) → n.ahead ≡ Turn → TurnAdds buf n.s buf₁ text₁ m → m.s.offset < 2 ^ 64
       → length buf₁ ≡ length buf → length out₁ ≡ length out → length text₁ ≡ length text → Going start buf₀ out₀ text₀ buf₁ out₁ text₁ m
   going_on buf₁ out₁ text₁ m a t f b o x =
       record {
