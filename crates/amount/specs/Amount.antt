@@ -2,7 +2,7 @@
 use Rattle.std.specs.Prelude.{ℕ, ◌+◌, ◌-◌, Bool, true, false, not, cond, List, [], ◌∷◌, eqb, leb, ltb, length, get_or}
 use Rattle.answer.specs.Steps.{check, must, ◌and_then◌, ◌or_accept◌}
 use Rattle.answer.specs.declared.Answer.{Answer}
-use Rattle.answer.specs.declared.Reason.TheVariants.{Length, NotPositive, Missing}
+use Rattle.answer.specs.declared.Reason.TheVariants.{Length, NotPositive}
 use Rattle.answer.specs.declared.Step.{Step}
 use Rattle.answer.specs.declared.Step.TheVariants.{Pass}
 use Rattle.text.specs.Ranges.{within}

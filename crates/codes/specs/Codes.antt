@@ -1,10 +1,10 @@
 -- SCOPE, kinds 7 and 8, for a code of n bytes: "Empty, 8; not 2 (or 3) bytes, 2; first non-letter, 3; first lower-case letter, 3;
 -- not listed, 6." The field's text itself stands on the list, whose lines are quoted as they are printed.
-use Rattle.std.specs.Prelude.{ℕ, ◌+◌, ◌*◌, Bool, true, false, ◌||◌, cond, List, [], ◌∷◌, ◌++◌, eqb, ltb, length}
+use Rattle.std.specs.Prelude.{ℕ, ◌+◌, ◌*◌, Bool, false, ◌||◌, cond, List, [], ◌∷◌, ◌++◌, eqb, length}
 use Prim.Native.String.{String}
 use Rattle.answer.specs.Steps.{check, must, ◌and_then◌, ◌or_accept◌}
 use Rattle.answer.specs.declared.Answer.{Answer}
-use Rattle.answer.specs.declared.Reason.TheVariants.{Missing, NotListed}
+use Rattle.answer.specs.declared.Reason.TheVariants.{NotListed}
 use Rattle.answer.specs.declared.Step.{Step}
 use Rattle.text.specs.Field.{length_is, present, first_wrong}
 use Rattle.text.specs.Quote.{bytes_of}

@@ -1,8 +1,8 @@
 -- Laws of reading: what an answer has shown, the digits of a part one by one, and the steps of a part, of the fraction and of both.
-use Prim.Native.Nat.{ℕ, suc, ◌+◌, ◌-◌, ◌*◌, ◌^◌, ◌≤◌, ◌<◌}
+use Prim.Native.Nat.{ℕ, ◌+◌, ◌-◌, ◌*◌, ◌^◌, ◌≤◌, ◌<◌}
 use mathlib.Core.Path.{◌≡◌, refl, ◌∙◌}
 use mathlib.Core.Bool.{Bool, true, false, ◌&&◌, cond}
-use mathlib.Core.List.{List, [], ◌∷◌}
+use mathlib.Core.List.{List}
 use native.Mathlib.Omega.{arith}
 use borrow.Author.Tests.{lt-ltb, le-ltb, eq-eqb, ne_eqb}
 use lib.Dec.{eqb, ltb}
@@ -16,7 +16,7 @@ use Rattle.answer.specs.declared.Step.{Step}
 use Rattle.answer.specs.declared.Step.TheVariants.{Pass, Stop}
 use Rattle.text.specs.Class.{is_digit}
 use Rattle.text.specs.Decimal.{digit_of}
-use Rattle.text.specs.Field.{dot, first_place, first_wrong, wrong_from}
+use Rattle.text.specs.Field.{dot, first_wrong, wrong_from}
 use Rattle.text.specs.Ranges.{within}
 use Rattle.text.specs.declared.Set.TheVariants.{Digits}
 use Rattle.text.proofs.Decimals.{number-none, number_more, number_grows}

@@ -2,7 +2,7 @@
 use Rattle.std.specs.Prelude.{ℕ, ◌+◌, ◌-◌, ◌*◌, ◌^◌, List, eqb, ltb, length, get_or, take, drop, ◌&&◌, cond}
 use Rattle.answer.specs.Steps.{check, must, ◌and_then◌, ◌or_accept◌}
 use Rattle.answer.specs.declared.Answer.{Answer}
-use Rattle.answer.specs.declared.Reason.TheVariants.{Length, Missing, TooLarge}
+use Rattle.answer.specs.declared.Reason.TheVariants.{Length, TooLarge}
 use Rattle.answer.specs.declared.Step.{Step}
 use Rattle.answer.specs.declared.Step.TheVariants.{Pass}
 use Rattle.text.specs.Decimal.{number_written}
