@@ -15,6 +15,7 @@ fn wide(b: u8) -> u64
     b as u64
 }
 
+#[tactic(auto, unfolding(crate::specs::Letter::letter_value))]
 fn letter_value(b: u8) -> u64
     ensures { result ≡ letter_value b }
 {
@@ -104,6 +105,7 @@ pub fn check_digits(r: u64) -> u64
 }
 
 // The last step of both rules.
+#[tactic(auto, unfolding(crate::specs::RemainderStep::remainder_step))]
 pub fn remainder_is_one(r: u64, check: u16) -> Step
     ensures { result ≡ remainder_step r check }
 {

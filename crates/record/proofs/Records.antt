@@ -82,7 +82,8 @@ unfolding sizes
 inside w zero = omega arith
 inside (none h) (suc j) = omega arith
 inside {s} {o} (one k n es e w) (suc j) =
-    omega (arith, size s o k n (take j es) e, inside w j, length-drop (4 + n) s, (whole s k n e).fits)
+    let i = inside {s = drop (4 + n) s} {o = o + (4 + n)} w j in
+    omega (arith, size s o k n (take j es) e, length-drop (4 + n) s, (whole s k n e).fits)
 
 -- past the first j records the others follow
 pub rest : {s : List ℕ} {o : ℕ} {es : List RecordAt} → Walks s o es → (j : ℕ) → j ≤ length es
@@ -91,7 +92,8 @@ unfolding sizes
 rest w zero h = rw add-zero w
 rest (none e) (suc j) h = absurd (omega arith)
 rest {s} {o} (one k n es e w) (suc j) h =
-    rw (size s o k n (take j es) e) (simp add_assoc (simp (drop-drop, add_assoc) at (rest w j (omega arith))))
+    let r = rest {s = drop (4 + n) s} {o = o + (4 + n)} w j (omega arith) in
+    rw (size s o k n (take j es) e) (simp add_assoc (simp (drop-drop, add_assoc) at r))
 
 -- the records of a batch stay its first where more bytes follow, and those after them start at the rest
 pub append : {s : List ℕ} {o : ℕ} {es : List RecordAt} → Walks s o es → (more : List ℕ) (fs : List RecordAt)
@@ -119,7 +121,8 @@ front {s} {o} (one k n es e w) (suc j) =
     rw (q, drop-take 4 (n + m) s (omega arith)) (take-take n (n + m) (drop 4 s) (omega arith)) in
     rw (size s o k n (take j es) e)
     (subst (λ (a : RecordAt). Walks (take (4 + n + m) s) o (a ∷ take j es)) (rw v)
-    (one k n (take j es) (shorter s k n (4 + n + m) e (omega arith)) (rw (drop-take (4 + n) m s f) (front w j))))
+    (one k n (take j es) (shorter s k n (4 + n + m) e (omega arith))
+    (rw (drop-take (4 + n) m s f) (front {s = drop (4 + n) s} {o = o + (4 + n)} w j))))
 
 -- numbers from lo on, each above the one before
 pub data Rising : ℕ → List ℕ → Type 0 where
@@ -147,7 +150,7 @@ rising w zero = end
 rising (none h) (suc j) = end
 rising {s} {o} (one k n es e w) (suc j) =
     let f : o ≤ o = omega arith in
-    up f (lower (rising w j) (suc o) (omega arith))
+    up f (lower (rising {s = drop (4 + n) s} {o = o + (4 + n)} w j) (suc o) (omega arith))
 
 pub sizes-least : (es : List RecordAt) → 4 * length es ≤ sizes es
 unfolding sizes

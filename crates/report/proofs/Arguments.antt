@@ -2,7 +2,7 @@
 use Prim.Native.Nat.{ℕ, zero, suc, ◌+◌, ◌-◌, ◌<◌, ◌^◌}
 use mathlib.Core.Path.{◌≡◌, sym, ◌∙◌}
 use mathlib.Core.List.{List, [], ◌∷◌}
-use native.Mathlib.Nat.{sub_zero, zero-add}
+use native.Mathlib.Nat.{sub-zero, zero-add}
 use native.Mathlib.Omega.{arith}
 use borrow.Author.Tests.{lt-ltb, le-ltb}
 use lib.Dec.{T}
@@ -41,16 +41,16 @@ only (b ∷ t) h = both_of (is_digit b) (digits_only t) (h 0 (omega arith)) (onl
 module _ (t : List ℕ) (k : ℕ) where
   pub only_passes : T (digits_only t) → first_wrong Digits t 0 (length t) k ≡ Pass
   unfolding first_wrong
-  only_passes p = rw sub_zero (all_pass Digits t 0 (length t) k (λ j h. rw zero-add (each t p j h)))
+  only_passes p = rw sub-zero (all_pass Digits t 0 (length t) k (λ j h. rw zero-add (each t p j h)))
 
   passes_only : first_wrong Digits t 0 (length t) k ≡ Pass → T (digits_only t)
   unfolding first_wrong
-  passes_only e = only t (λ j h. rw zero-add at (all-allowed Digits t 0 (length t) k (rw sub_zero at e) j h))
+  passes_only e = only t (λ j h. rw zero-add at (all-allowed Digits t 0 (length t) k (rw sub-zero at e) j h))
 
   -- digits write a number that their count bounds
   pub only_most : T (digits_only t) → number_written t < 10 ^ length t
   unfolding first_wrong
-  only_most p = rw take-length at (digits-most t 0 (length t) k (length t) (omega arith) (rw sub_zero at (only_passes p)))
+  only_most p = rw take-length at (digits-most t 0 (length t) k (length t) (omega arith) (rw sub-zero at (only_passes p)))
 
   pub given : (length t ≡ 0 → ⊥) → first_wrong Digits t 0 (length t) k ≡ Pass → offset_of t ≡ within64 (fitted (number_written t))
   unfolding offset_of

@@ -1,15 +1,14 @@
 -- Laws of what is written into a buffer: one text after another, a byte after a text, and the digits and the byte of a field.
 use Prim.Native.Nat.{ℕ, suc, ◌+◌, ◌-◌, ◌^◌, ◌≤◌, ◌<◌}
 use mathlib.Core.Path.{◌≡◌, refl, sym, ap, ◌∙◌}
-use mathlib.Core.List.{List, [], ◌∷◌, ◌++◌, append_assoc, append-nil}
+use mathlib.Core.List.{List, [], ◌∷◌, ◌++◌, append_assoc}
 use native.Mathlib.Nat.{add_assoc, zero-add}
 use native.Mathlib.Numerals.{add-one}
 use native.Mathlib.Omega.{arith}
 use borrow.Author.Tests.{lt-ltb, le-ltb}
 use lib.ListN.{length, get_or, take, drop, set, length-append, length-drop}
-use lib.Seq.{take-length, take_at, set_at, sets-eq, drop-cons, drop-drop, drop-append-add, length-take-le}
+use lib.Seq.{take_at, set_at, sets-eq, drop-cons, drop-drop, drop-append-add, length-take-le}
 use Rattle.text.specs.Quote.{bytes_of}
-use Rattle.record.proofs.Parts.{to_end, past_end}
 use Rattle.report.specs.Digits.{decimal_digits}
 use Rattle.report.specs.Text.{field, numbers_line, named, last_line, at_start, last_most, placed, ended}
 use Rattle.report.specs.Inner.{put, Put}
@@ -125,10 +124,12 @@ pub row-then : {at x y a b : ℕ} {xs out out₁ out₂ : List ℕ} → Room at 
 unfolding numbers_line
 row-then h p q = then _ _ _ _ _ _ _ _ (row_first h) p q
 
--- a word that `bytes::copy` wrote
-pub put_word : (at : ℕ) (word out last : List ℕ) → last ≡ take (length word) word ++ drop (length word) (take (length out - at) (drop at out))
-    → Put at word out (part_back at (length out - at) last out) (at + length word)
-put_word at word out last q = record { end = refl; is = rw (past_end, q, to_end) (simp (append-nil, take-length, drop-drop)) }
+-- a word that was copied into a part of just its length
+pub put_word : (at : ℕ) (word out last : List ℕ) → last ≡ word
+    → Put at word out (part_back at (at + length word - at) last out) (at + length word)
+put_word at word out last q =
+    let e : at + length word - at ≡ length word = omega arith in
+    record { end = refl; is = rw (e, q) (simp drop-drop) }
 
 -- and the number after it
 module _ (at x after : ℕ) (word out out₁ : List ℕ) (small : x < 2 ^ 64) (fits : at + length word + 21 ≤ length out)

@@ -3,7 +3,7 @@ use Prim.Native.Nat.{ℕ, zero, suc, ◌+◌, ◌-◌, ◌*◌, ◌/◌, ◌≤�
 use mathlib.Core.Path.{◌≡◌, refl, ap, ◌∙◌}
 use mathlib.Core.Bool.{Bool, true, false, cond}
 use mathlib.Core.List.{List, [], ◌∷◌, ◌++◌, append_assoc, append-nil}
-use native.Mathlib.Nat.{zero-add, sub_zero}
+use native.Mathlib.Nat.{zero-add, sub-zero}
 use native.Mathlib.Numerals.{add-one}
 use native.Mathlib.Omega.{arith}
 use borrow.Author.Tests.{lt-ltb, le-ltb}
@@ -190,7 +190,7 @@ start_lines v out =
       room = omega arith;
       same = refl;
       wrote = record { end = refl; is = refl };
-      rest = simp (sub_zero, zero-add);
+      rest = simp (sub-zero, zero-add);
     }
 
 module _ (v out₀ out : List ℕ) (k i at : ℕ) (g : Lining v out₀ out k i at) where

@@ -1,5 +1,5 @@
 -- The program's text, after SCOPE, "The batch": the heading, a line for each verdict, and the last line.
-use Rattle.std.specs.Prelude.{ℕ, zero, suc, ◌+◌, ◌-◌, ◌/◌, List, [], ◌∷◌, ◌++◌, ltb, length, drop, cond}
+use Rattle.std.specs.Prelude.{ℕ, zero, suc, ◌-◌, ◌/◌, List, [], ◌∷◌, ◌++◌, ltb, length, drop, cond}
 use Rattle.text.specs.Quote.{bytes_of}
 use Rattle.verdict.specs.Verdict.{verdict_size, read_verdict}
 use Rattle.verdict.specs.declared.Verdict.{Verdict}

@@ -159,7 +159,7 @@ fn put_named(out: &mut [u8], at: usize, word: &[u8], x: u64, after: u8) -> usize
     ensures put { Put at (named word.now x after) out.old out.new result }
     ensures most { result ≤ at + length word.now + 21 }
 {
-    bytes::copy(word, &mut out[at..]);
+    out[at..at + word.len()].copy_from_slice(word);
     put_field(out, at + word.len(), x, after)
 }
 

@@ -1,4 +1,4 @@
-// The program's run: a batch is read from standard input, judged turn by turn, and its verdicts are written as text.
+// The program's run: a batch is read from its input, judged turn by turn, and its verdicts are written to standard output as text.
 //
 // Turns follow each other until the input ends, or fails, or cannot be gone on with. A turn judges the whole records of what its buffer
 // holds, hands their lines to one write and, where no whole record is left, reads once. No contract can say which bytes a read gives or
@@ -8,11 +8,17 @@
 #![tactic(auto)]
 
 ghost use Rattle.std.specs.Prelude.{◌≡◌, ◌+◌, ◌≤◌, ◌<◌, length, take, drop};
+ghost use Rattle.std.specs.Io.{ReadsAtMost};
 ghost use Rattle.report.specs.Text.{last_most};
 ghost use Rattle.service.specs.Run.{way_after, Good, TurnAdds, Served, Closing};
 ghost use Rattle.service.specs.Inner.{call_with, Judging, Shifted, More, Moved, Roomy};
 
 use batch::Stop;
+use std::io;
+use std::io::Read;
+
+// The bytes that the buffer holds: a read asks for all that there is room for. The longest record has 4 + 8,192.
+const BUFFER: usize = 65536;
 
 // How many records a call can judge: its verdicts and their lines have room for so many.
 const RECORDS: usize = 1024;
@@ -134,27 +140,42 @@ fn shift(buf: &mut [u8], s: State) -> State
     }
 }
 
+// A failure is a line on standard error: what failed, and why. Where that line fails too, there is nobody left to tell.
+fn tell(rt: &impl Eprint, what: &str, why: io::Error) {
+    let _ = rt.eprintln(format_args!("{what}: {why}"));
+}
+
 // Hands a part to standard output, and says how much that was. All that the program writes goes through here.
-fn write_out(part: &[u8]) -> Written
+fn write_out<R: Print + Eprint>(rt: &R, part: &[u8]) -> Written
     ensures { result.size ≡ length part.now }
 {
     let size = part.len();
-    let whole = io::write_all(1, part);
-    if !whole {
-        os::fail(b"standard output");
-    }
+    let whole = match rt.write_all(part) {
+        Ok(()) => true,
+        Err(why) => {
+            tell(rt, "standard output", why);
+            false
+        }
+    };
     Written { size, whole }
 }
 
-// Reads into a part that is not empty, so that 0 says that the input has ended.
-fn read_some(part: &mut [u8]) -> isize
+// Reads once into a part that is not empty, so that 0 says that the input has ended.
+fn read_some<I: Read>(input: &mut I, part: &mut [u8]) -> io::Result<usize>
     requires { 0 < length part.old }
+    ensures { ReadsAtMost result part.new }
 {
-    libc::read(0, part)
+    input.read(part)
 }
 
 // Reads once, after what is held, for which there is room.
-fn read_more(buf: &mut [u8], s: State, wrote: usize) -> Next
+fn read_more<R: Eprint, I: Read>(
+    rt: &R,
+    input: &mut I,
+    buf: &mut [u8],
+    s: State,
+    wrote: usize,
+) -> Next
     requires good { Good buf.old s }
     requires end_bound { s.end < s.at + length buf.old }
     ensures more { More buf.old s wrote buf.new result }
@@ -163,17 +184,18 @@ fn read_more(buf: &mut [u8], s: State, wrote: usize) -> Next
     let t = shift(buf, s);
     let end = t.end;
     let stop = t.stop;
-    let got = read_some(&mut buf[end..]);
-    if got < 0 {
-        os::fail(b"standard input");
-        return Next {
-            s: t,
-            ahead: Ahead::Nothing,
-            wrote: wrote,
-            came: 0,
-        };
-    }
-    let n = io::count(got, &buf[end..]);
+    let n = match read_some(input, &mut buf[end..]) {
+        Ok(n) => n,
+        Err(why) => {
+            tell(rt, "standard input", why);
+            return Next {
+                s: t,
+                ahead: Ahead::Nothing,
+                wrote: wrote,
+                came: 0,
+            };
+        }
+    };
     if n == 0 {
         return Next {
             s: t,
@@ -199,7 +221,14 @@ fn read_more(buf: &mut [u8], s: State, wrote: usize) -> Next
 }
 
 // A turn: judges what is held, writes the lines, and reads on where no whole record is left.
-fn step(buf: &mut [u8], out: &mut [u8], text: &mut [u8], s: State) -> Next
+fn step<R: Print + Eprint, I: Read>(
+    rt: &R,
+    input: &mut I,
+    buf: &mut [u8],
+    out: &mut [u8],
+    text: &mut [u8],
+    s: State,
+) -> Next
     requires good { Good buf.old s }
     requires roomy { Roomy buf.old out.old text.old }
     ensures turn_adds { TurnAdds buf.old s buf.new text.new result }
@@ -208,7 +237,7 @@ fn step(buf: &mut [u8], out: &mut [u8], text: &mut [u8], s: State) -> Next
     let t = judge_held(buf, out, text, s);
     let u = t.s;
     let n = t.text;
-    let w = write_out(&text[..n]);
+    let w = write_out(rt, &text[..n]);
     let wrote = w.size;
     if !w.whole {
         return Next {
@@ -226,7 +255,7 @@ fn step(buf: &mut [u8], out: &mut [u8], text: &mut [u8], s: State) -> Next
             wrote: wrote,
             came: 0,
         },
-        Way::Read => read_more(buf, u, wrote),
+        Way::Read => read_more(rt, input, buf, u, wrote),
         Way::End => Next {
             s: u,
             ahead: Ahead::LastLine,
@@ -237,7 +266,14 @@ fn step(buf: &mut [u8], out: &mut [u8], text: &mut [u8], s: State) -> Next
 }
 
 // Turns, for as long as one follows.
-fn serve(buf: &mut [u8], out: &mut [u8], text: &mut [u8], start: u64) -> Next
+fn serve<R: Print + Eprint, I: Read>(
+    rt: &R,
+    input: &mut I,
+    buf: &mut [u8],
+    out: &mut [u8],
+    text: &mut [u8],
+    start: u64,
+) -> Next
     requires { Roomy buf.old out.old text.old }
     ensures { Served start buf.new result }
 {
@@ -259,7 +295,7 @@ fn serve(buf: &mut [u8], out: &mut [u8], text: &mut [u8], start: u64) -> Next
         match ahead {
             Ahead::Turn => {
                 let s = n.s;
-                n = step(buf, out, text, s);
+                n = step(rt, input, buf, out, text, s);
             }
             Ahead::LastLine => return n,
             Ahead::Nothing => return n,
@@ -277,22 +313,20 @@ fn last_line(text: &mut [u8], s: State) -> usize
 }
 
 // The whole run: the heading, the turns and, unless input or output failed, the last line.
-pub fn run_from(start: u64) {
+pub fn run_from<R: Print + Eprint, I: Read>(rt: &R, input: &mut I, start: u64) {
     let head = report::heading();
-    let h = write_out(&head);
+    let h = write_out(rt, &head);
     if !h.whole {
         return;
     }
-    let mut buf = io::large_buffer();
+    let mut buf = [0u8; BUFFER];
     let mut out = [0u8; RECORDS * verdict::VERDICT_SIZE];
     let mut text = [0u8; RECORDS * report::LINE_MOST];
-    let n = serve(&mut buf, &mut out, &mut text, start);
+    let n = serve(rt, input, &mut buf, &mut out, &mut text, start);
     let ahead = n.ahead;
     if let Ahead::LastLine = ahead {
         let s = n.s;
         let k = last_line(&mut text, s);
-        write_out(&text[..k]);
+        write_out(rt, &text[..k]);
     }
 }
-
-// A bad argument is told, and nothing is read or written.

@@ -45,6 +45,7 @@ pub enum Number {
     Over,
 }
 
+#[tactic(auto, unfolding(crate::specs::Class::class_of))]
 pub fn classify(b: u8) -> Class
     ensures { result ≡ class_of b }
 {
@@ -180,6 +181,7 @@ pub fn number_of(t: &[u8]) -> Number
     Number::Fits(n)
 }
 
+#[tactic(auto, unfolding(crate::specs::Field::length_is))]
 pub fn length_is(s: &[u8], n: usize, check: u16) -> Step
     ensures { result ≡ length_is n s.now check }
 {
@@ -198,6 +200,7 @@ pub fn length_is(s: &[u8], n: usize, check: u16) -> Step
 }
 
 // A part of the field has a byte at a place, which is before the part's end.
+#[tactic(auto, unfolding(crate::specs::Field::present))]
 pub fn present(at: usize, end: usize, check: u16) -> Step
     ensures { result ≡ present at end check }
 {
@@ -235,6 +238,7 @@ pub fn first_wrong(set: Set, s: &[u8], from: usize, to: usize, check: u16) -> St
     wrong_from(set, s, from, to - from, check)
 }
 
+#[tactic(auto, unfolding(crate::specs::Field::literal_at))]
 pub fn literal(s: &[u8], i: usize, b: u8, check: u16) -> Step
     ensures { result ≡ literal_at s.now i b check }
 {

@@ -5,6 +5,8 @@
 ghost use Rattle.std.specs.Prelude.{◌≤◌, ◌<◌, length};
 
 use answer::Answer;
+use std::io;
+use std::io::Read;
 use text::Number;
 
 const ANY_REFUSAL: u64 = 255;
@@ -157,15 +159,14 @@ fn replay_all(s: &[u8], value: &mut [u8]) -> Tally {
     Tally { count, differ }
 }
 
-fn main() {
-    let mut list = [0u8; 524288];
+fn main(rt: HostRuntime) -> io::Result<()> {
+    let mut list = Vec::new(rt.alloc());
+    rt.stdin().read_to_end(&mut list)?;
     let mut value = [0u8; 4096];
-    let n = io::read_full(0, &mut list);
-    let t = replay_all(&list[..n], &mut value);
-    io::print_decimal(1, t.count);
-    io::write_all(1, b" vectors, ");
-    io::print_decimal(1, t.differ);
-    io::write_all(1, b" differ\n");
+    let t = replay_all(list.as_slice(), &mut value);
+    let count = t.count;
+    let differ = t.differ;
+    println!(rt; "{count} vectors, {differ} differ")
 }
 
 // One more where that is so; a list is never long enough to reach the end.
