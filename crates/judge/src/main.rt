@@ -15,7 +15,7 @@ fn refuse(rt: &impl Eprint) {
 }
 
 // The stream offset of the first byte, which the one argument gives, if there is one; none where the arguments are bad.
-fn start_of(rt: &impl Env) -> Option<u64> {
+fn start_of(rt: &HostRuntime) -> Option<u64> {
     let mut word = [0u8; WORD_MOST];
     match rt.arg(2, &mut word) {
         Err(FillError::NotPresent) => {}
