@@ -1,6 +1,6 @@
 -- ISO 8601:2004, 4.1.2.2, the complete calendar date in extended format, YYYY-MM-DD. SCOPE, kind 4, has the years 1900 to 2099 and no
 -- calendar: each month may have the days 01 to 31.
-use Rattle.std.specs.Prelude.{ℕ, ◌+◌, ◌*◌, List}
+use Rattle.std.specs.Prelude.{ℕ, List}
 use Rattle.answer.specs.Steps.{check, ◌and_then◌, ◌or_accept◌}
 use Rattle.answer.specs.declared.Answer.{Answer}
 use Rattle.answer.specs.declared.Step.{Step}

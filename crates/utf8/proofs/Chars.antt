@@ -12,7 +12,7 @@ use lib.Seq.{drop-cons, get_or-drop, drop-nil, drop-drop}
 use Rattle.text.specs.Ranges.{within}
 use Rattle.text.proofs.Ranges.{even, on, evenly, within-ends, both_parts, either_parts, find-all}
 use Rattle.utf8.specs.Rfc3629.{leads, no_lead, lead_of, needed, well_formed, scalar_of, char_of, front}
-use Rattle.utf8.specs.Chars.{ch, chars_past, chars}
+use Rattle.utf8.specs.Chars.{ch, chars_past, chars, widths}
 use Rattle.utf8.specs.declared.Lead.{Lead}
 use Rattle.utf8.specs.declared.Decoded.TheVariants.{Char, Bad}
 
@@ -147,3 +147,11 @@ stands s at c w h e =
 -- a byte below 128 stands for itself
 pub ascii_stands : (s : List ℕ) (at : ℕ) → at < length s → get_or s at 0 < 128 → Stands s at (get_or s at 0) 1
 ascii_stands s at h small = stands s at (get_or s at 0) 1 (omega arith) (sym (ascii-at s at (get_or s at 0) (get_or s at 0) h refl small refl))
+
+-- the same, as `decode` and `walked_prefix` meet it
+pub ascii_front : (s : List ℕ) (at v : ℕ) → at < length s → get_or s at 0 < 128 → v ≡ get_or s at 0 → Char v 1 ≡ front (drop at s)
+ascii_front s at v h small e = ascii-at s at (get_or s at 0) v h refl small e
+
+pub ascii_widths : (s : List ℕ) (at : ℕ) → at < length s → get_or s at 0 < 128 → widths (chars (drop at s)) ≡ 1 + widths (chars (drop (at + 1) s))
+unfolding widths
+ascii_widths s at h small = ap widths (ascii_stands s at h small).first

@@ -147,6 +147,7 @@ fn by_row(s: &[u8], at: usize) -> Decoded
 }
 
 // The character that starts at a place. An ASCII byte is a character by itself, and needs no look at the table.
+#[tactic(auto, using(crate::proofs::Chars::ascii_front))]
 pub fn decode(s: &[u8], at: usize) -> Decoded
     ensures { result ≡ front (drop at s.now) }
 {
@@ -206,6 +207,7 @@ pub fn is_ascii(s: &[u8]) -> bool
 
 // The length of the longest well-formed prefix, found one character after the other. An ASCII byte is a character by itself, and needs no look
 // at the table.
+#[tactic(auto, using(crate::proofs::Chars::ascii_widths))]
 fn walked_prefix(s: &[u8]) -> usize
     ensures { result ≡ valid_prefix s.now }
 {

@@ -2,17 +2,12 @@
 use mathlib.Core.Path.{sym, ap, ◌∙◌}
 use native.Mathlib.Omega.{arith}
 use Rattle.utf8.specs.Chars.{widths, valid_prefix}
-use Rattle.utf8.proofs.Chars.{stands, ascii_stands, chars_bad, chars-end}
+use Rattle.utf8.proofs.Chars.{stands, chars_bad, chars-end}
 use Rattle.utf8.proofs.walked_prefix.Goals as goal
 
 pub loop-at-init : goal.loop-at-init
 unfolding valid_prefix
 loop-at-init c = (omega arith, omega arith)
-
-pub loop-at-preserved-then-s-at-lt128 : goal.loop-at-preserved-then-s-at-lt128
-unfolding widths
-loop-at-preserved-then-s-at-lt128 c =
-    omega (arith, ap widths (ascii_stands c.args.s.now c.loop-at.at c.loop-at-test.true c.if-s-at-lt128.true).first)
 
 pub overflow_add-at-in-Char : goal.overflow_add-at-in-Char
 overflow_add-at-in-Char c =
