@@ -7,6 +7,7 @@ ghost use Rattle.bic.specs.Bic.{bic_length, bic_answer};
 use answer::{Answer, Reason, Step};
 use text::Set;
 
+#[tactic(auto, unfolding(crate::specs::Bic::bic_length))]
 fn bic_length(s: &[u8]) -> Step
     ensures { result ≡ bic_length s.now }
 {

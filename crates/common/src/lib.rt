@@ -34,6 +34,7 @@ enum Parsed {
 }
 
 // The place where the first digit should stand: after a `+`, if there is one.
+#[tactic(auto, unfolding(crate::specs::Cents::digits_at))]
 fn digits_at(s: &[u8], from: usize, to: usize) -> usize
     requires { to ≤ length s.now }
     ensures { result ≡ digits_at s.now from to }

@@ -33,19 +33,6 @@ use Rattle.field.specs.Inner.{utf8_step, before_rule, after_rule, Suits}
 use Rattle.field.specs.declared.Way.{Way}
 use Rattle.field.specs.declared.Way.TheVariants.{RuleFirst, AdmittedFirst, Exempt, Unknown}
 
--- what a match knows in its last arm: the number is none of the keys of the arms before
-abbrev Missed : List ℕ → Type 0 → ℕ → Type 0
-Missed [] N n = N
-Missed (k ∷ ks) N n = Missed ks (N × (n ≡ k → ⊥)) n
-
-one_or : (k : ℕ) (ks : List ℕ) (n : ℕ) → (n ≡ k → ⊥) → (OneOf ks n → ⊥) → OneOf (k ∷ ks) n → ⊥
-one_or k [] n f g o = f o
-one_or k (j ∷ ks) n f g o = ⊎_elim f g o
-
-all_missed : (ks : List ℕ) (N : Type 0) (n : ℕ) → Missed ks N n → N × (OneOf ks n → ⊥)
-all_missed [] N n m = (m, λ o. o)
-all_missed (k ∷ ks) N n m = let p = all_missed ks (N × (n ≡ k → ⊥)) n m in (p.0.0, one_or k ks n p.0.1 p.1)
-
 -- a number that no line of a table has
 pub no_line : {A : Type 0} (ks : List Kind) (d : A) (f : Kind → A) (n : ℕ) → (OneOf (map (λ k. k.number) ks) n → ⊥) → line_in ks d f n ≡ d
 no_line [] d f n h = refl
@@ -65,9 +52,9 @@ module _ (n : ℕ) where
   line : (k : ℕ) → Suits RuleFirst k → (k + 1 ≤ n → Suits RuleFirst n) → k ≤ n → Suits RuleFirst n
   line k p f l = ⊎_elim (λ e. rw (← e) p) (λ u. f (omega arith)) (eq-or-lt_of_le l)
 
-  pub rule-first : 2 ≤ n → n ≤ 10 → Suits RuleFirst n
+  pub rule_first : 2 ≤ n → n ≤ 10 → Suits RuleFirst n
   unfolding admission rule_of ◌and_then◌
-  rule-first l h =
+  rule_first l h =
       line 2 (λ s. refl, low-ascii _ lei_low)
       (line 3 (λ s. refl, low-ascii _ bic_low)
       (line 4 (λ s. refl, low-ascii _ date_low)
@@ -79,13 +66,20 @@ module _ (n : ℕ) where
       (line 10 (λ s. refl, low-ascii _ lenient_low) (λ u. absurd (omega arith))))))))))
       l
 
+-- .. in its two parts, as a check finds them alone
+pub admitted_text : (n : ℕ) (s : List ℕ) → 2 ≤ n → n ≤ 10 → admission n s ≡ limit_step s and_then utf8_step s
+admitted_text n s l h = (rule_first n l h).0 s
+
+pub accepts_ascii : (n : ℕ) (s : List ℕ) (m : ℕ) → 2 ≤ n → n ≤ 10 → rule_of n s ≡ Accepted m → ascii s ≡ true
+accepts_ascii n s m l h = (rule_first n l h).1 s m
+
 pub iban_admitted_first : Suits AdmittedFirst 1
 unfolding admission ◌and_then◌
 iban_admitted_first s = refl
 
-pub no_rule : (n : ℕ) (s : List ℕ) (N : Type 0) → Missed (map (λ k. k.number) kinds) N n → Refused (UnknownKind n) 1 ≡ rule_of n s
+pub no_rule : (n : ℕ) (s : List ℕ) → (OneOf (map (λ k. k.number) kinds) n → ⊥) → Refused (UnknownKind n) 1 ≡ rule_of n s
 unfolding rule_of ◌or_accept◌
-no_rule n s N m = sym (no_line kinds _ (λ k. k.rule s) n (all_missed (map (λ k. k.number) kinds) N n m).1)
+no_rule n s h = sym (no_line kinds _ (λ k. k.rule s) n h)
 
 pub unlisted : (n : ℕ) → (OneOf (map (λ k. k.number) kinds) n → ⊥) → Suits Unknown n
 unfolding check_field admission rule_of ◌and_then◌ ◌or_accept◌
@@ -97,7 +91,7 @@ unfolding rule_of ◌or_accept◌
 ruled n s m other e = go (within 2 10 n) refl
   where
     go : (t : Bool) → within 2 10 n ≡ t → ascii s ≡ true
-    go true t = let w = within-ends 2 10 n (rw t tt) in (rule-first n w.0 w.1).1 s m e
+    go true t = let w = within-ends 2 10 n (rw t tt) in (rule_first n w.0 w.1).1 s m e
     go false t =
         let none : OneOf (map (λ k. k.number) kinds) n → ⊥ = λ o. let w = from_to n o in apart (within_yes 2 10 n (omega arith) w.1) t in
         let r = no_line kinds (Refused (UnknownKind n) 1) (λ k. k.rule s) n none in

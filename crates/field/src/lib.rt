@@ -25,6 +25,7 @@ enum Way {
 }
 
 // A new kind has a line here and one in `rule`.
+#[tactic(auto, using(crate::proofs::Ways::iban_admitted_first, crate::proofs::Ways::admitted_text, crate::proofs::Ways::accepts_ascii, crate::proofs::Ways::unlisted, crate::proofs::Ways::from_to))]
 fn way_of(kind: u16) -> Way
     ensures { Suits result kind }
 {
@@ -35,6 +36,7 @@ fn way_of(kind: u16) -> Way
     }
 }
 
+#[tactic(auto, unfolding(crate::specs::Field::rule_of))]
 fn rule(kind: u16, value: &[u8]) -> Answer
     ensures { result ≡ rule_of kind value.now }
 {

@@ -160,6 +160,7 @@ fn reason_in(s: &[u8], reason: Reason) -> Reason
     reason
 }
 
+#[tactic(auto, unfolding(crate::specs::Iban::count_step))]
 fn count_step(n: usize) -> Step
     ensures { result ≡ count_step n }
 {

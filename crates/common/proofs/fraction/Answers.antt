@@ -24,8 +24,8 @@ returns-then-count-eq1 c =
 
 pub returns-else-count-eq1 : goal.returns-else-count-eq1
 returns-else-count-eq1 c =
-    fraction_two c.args.least c.args.s.now c.args.from c.args.check (omega arith) c.if-count-gt2.false (omega arith) _ c.if-count-eq1.false (sym c.whole.ensures ∙ c.in-Is.is)
+    fraction_two c.args.least c.args.s.now c.args.from c.args.check (omega arith) (omega arith) (omega arith) _ c.if-count-eq1.false (sym c.whole.ensures ∙ c.in-Is.is)
 
 pub returns-in-Not : goal.returns-in-Not
 returns-in-Not c =
-    fraction_wrong c.args.least c.args.s.now c.args.from c.args.check (omega arith) c.if-count-gt2.false (omega arith) _ _ (sym c.whole.ensures ∙ c.in-Not.is)
+    fraction_wrong c.args.least c.args.s.now c.args.from c.args.check (omega arith) (omega arith) (omega arith) _ _ (sym c.whole.ensures ∙ c.in-Not.is)

@@ -1,5 +1,4 @@
 -- `iban::class_steps` meets its contract: the chain is the definition's, step by step.
-use borrow.Author.Rules.{rules}
 use Rattle.answer.proofs.Laws.{then_is}
 use Rattle.iban.specs.Iban.{class_steps}
 use Rattle.iban.proofs.class_steps.Goals as goal

@@ -1,51 +1,21 @@
 -- `iban::drop_ascii_blanks` meets its contract: as `drop_blanks`, with each byte a character of its own.
-use Prim.Native.Nat.{◌-◌, ◌%◌, ◌<◌}
+use Prim.Native.Nat.{◌%◌}
 use mathlib.Core.Path.{◌≡◌, sym, ◌∙◌, ap}
 use native.Mathlib.Omega.{arith}
-use lib.ListN.{length, get_or}
+use lib.ListN.{get_or}
 use Rattle.utf8.specs.Space.{white_space}
 use Rattle.utf8.proofs.Ascii.{ascii_below}
-use Rattle.utf8.proofs.Chars.{Stands, ascii_stands, chars-end}
-use Rattle.iban.proofs.Padded.{length-padded}
-use Rattle.iban.proofs.Blanks.{Dropping, starts, past_blank, past_char, ends}
+use Rattle.utf8.proofs.Chars.{ascii_stands, chars-end}
+use Rattle.iban.proofs.Blanks.{starts, past_blank, past_char, ends}
 use Rattle.iban.proofs.drop_ascii_blanks.Goals as goal
 
 pub loop-at-init : goal.loop-at-init
 loop-at-init c = starts _ _ c.zeros-text.ensures
 
-pub overflow_add-at : goal.overflow_add-at
-overflow_add-at c =
-    let here = ascii_stands _ _ c.loop-at-test.true (ascii_below _ c.requires _ c.loop-at-test.true) in
-    omega (arith, here)
-
-pub loop-at-smaller-then-is_white_space : goal.loop-at-smaller-then-is_white_space
-loop-at-smaller-then-is_white_space c =
-    let here = ascii_stands _ _ c.loop-at-test.true (ascii_below _ c.requires _ c.loop-at-test.true) in
-    omega (arith, here)
-
 pub loop-at-preserved-then-is_white_space : goal.loop-at-preserved-then-is_white_space
 loop-at-preserved-then-is_white_space c =
     let here = ascii_stands _ _ c.loop-at-test.true (ascii_below _ c.requires _ c.loop-at-test.true) in
     past_blank _ _ _ _ c.loop-at.invariant _ _ here (sym (c.is_white_space.ensures ∙ ap white_space c.wide.ensures) ∙ c.if-is_white_space.true)
-
-pub slice_bounds-put-end : goal.slice_bounds-put-end
-slice_bounds-put-end c =
-    sym (ap length c.loop-at.invariant.holds ∙ length-padded 34 _)
-
-pub overflow_add-count : goal.overflow_add-count
-overflow_add-count c =
-    let here = ascii_stands _ _ c.loop-at-test.true (ascii_below _ c.requires _ c.loop-at-test.true) in
-    omega (arith, c.loop-at.invariant.few, here.some, here.inside)
-
-pub overflow_add-at-in-loop-at : goal.overflow_add-at-in-loop-at
-overflow_add-at-in-loop-at c =
-    let here = ascii_stands _ _ c.loop-at-test.true (ascii_below _ c.requires _ c.loop-at-test.true) in
-    omega (arith, here)
-
-pub loop-at-smaller : goal.loop-at-smaller
-loop-at-smaller c =
-    let here = ascii_stands _ _ c.loop-at-test.true (ascii_below _ c.requires _ c.loop-at-test.true) in
-    omega (arith, here)
 
 pub loop-at-preserved : goal.loop-at-preserved
 loop-at-preserved c =

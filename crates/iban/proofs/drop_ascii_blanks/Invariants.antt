@@ -1,13 +1,7 @@
--- `iban::drop_ascii_blanks` meets its contract: as `drop_blanks`, with each byte a character of its own.
-use Prim.Native.Nat.{◌-◌, ◌%◌, ◌<◌}
-use mathlib.Core.Path.{◌≡◌, sym, ◌∙◌, ap}
-use native.Mathlib.Omega.{arith}
-use lib.ListN.{length, get_or}
-use Rattle.utf8.specs.Space.{white_space}
-use Rattle.utf8.proofs.Ascii.{ascii_below}
-use Rattle.utf8.proofs.Chars.{Stands, ascii_stands, chars-end}
-use Rattle.iban.proofs.Padded.{length-padded}
-use Rattle.iban.proofs.Blanks.{Dropping, starts, past_blank, past_char, ends}
+-- `iban::drop_ascii_blanks`'s loop. The invariant: as in `drop_blanks`. The measure is what is left.
+use Prim.Native.Nat.{◌-◌}
+use lib.ListN.{length}
+use Rattle.iban.proofs.Blanks.{Dropping}
 use Rattle.iban.proofs.drop_ascii_blanks.Given as goal
 
 abbrev pub invariant-loop-at : goal.invariant-loop-at

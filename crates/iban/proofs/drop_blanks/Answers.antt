@@ -1,12 +1,8 @@
 -- `iban::drop_blanks` meets its contract. The invariant: the text so far, and the characters from there on, are the field's in electronic format.
-use mathlib.Core.Path.{sym, ◌∙◌, ap}
-use Prim.Native.Nat.{◌-◌}
+use mathlib.Core.Path.{sym, ◌∙◌}
 use native.Mathlib.Omega.{arith}
-use borrow.Author.Rules.{rules}
-use lib.ListN.{length}
-use Rattle.iban.proofs.Padded.{length-padded}
-use Rattle.iban.proofs.Blanks.{Dropping, starts, past_blank, past_char, beyond_ascii, no_character, ends}
-use Rattle.utf8.proofs.Chars.{Stands, stands, chars_bad, chars-end}
+use Rattle.iban.proofs.Blanks.{starts, past_blank, past_char, beyond_ascii, no_character, ends}
+use Rattle.utf8.proofs.Chars.{stands, chars_bad, chars-end}
 use Rattle.iban.proofs.drop_blanks.Goals as goal
 
 pub loop-at-init : goal.loop-at-init
@@ -30,16 +26,7 @@ loop-at-preserved-then-is_white_space c =
 pub returns-then-scalar-ge128 : goal.returns-then-scalar-ge128
 returns-then-scalar-ge128 c =
     let here = stands _ _ _ _ c.loop-at.invariant.inside (sym c.decode.ensures ∙ c.in-Char.is) in
-    beyond_ascii _ _ _ _ c.loop-at.invariant _ _ here (sym c.is_white_space.ensures ∙ c.if-is_white_space.false) c.if-scalar-ge128.true
-
-pub slice_bounds-put-end : goal.slice_bounds-put-end
-slice_bounds-put-end c =
-    sym (ap length c.loop-at.invariant.holds ∙ length-padded 34 _)
-
-pub overflow_add-count : goal.overflow_add-count
-overflow_add-count c =
-    let here = stands _ _ _ _ c.loop-at.invariant.inside (sym c.decode.ensures ∙ c.in-Char.is) in
-    omega (arith, c.loop-at.invariant.few, here.some, here.inside)
+    beyond_ascii _ _ _ _ c.loop-at.invariant _ _ here (sym c.is_white_space.ensures ∙ c.if-is_white_space.false) (omega arith)
 
 pub overflow_add-at-in-Char : goal.overflow_add-at-in-Char
 overflow_add-at-in-Char c =
@@ -55,7 +42,7 @@ pub loop-at-preserved : goal.loop-at-preserved
 loop-at-preserved c =
     let here = stands _ _ _ _ c.loop-at.invariant.inside (sym c.decode.ensures ∙ c.in-Char.is) in
     rw c.put.ensures
-    (past_char _ _ _ _ c.loop-at.invariant _ _ here (sym c.is_white_space.ensures ∙ c.if-is_white_space.false) c.if-scalar-ge128.false)
+    (past_char _ _ _ _ c.loop-at.invariant _ _ here (sym c.is_white_space.ensures ∙ c.if-is_white_space.false) (omega arith))
 
 pub returns-in-Bad : goal.returns-in-Bad
 returns-in-Bad c =

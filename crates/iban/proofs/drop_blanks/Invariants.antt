@@ -1,12 +1,7 @@
--- `iban::drop_blanks` meets its contract. The invariant: the text so far, and the characters from there on, are the field's in electronic format.
-use mathlib.Core.Path.{sym, ◌∙◌, ap}
+-- `iban::drop_blanks`'s loop. The invariant: the text so far, and the characters from there on, are the field's in electronic format. The measure is what is left.
 use Prim.Native.Nat.{◌-◌}
-use native.Mathlib.Omega.{arith}
-use borrow.Author.Rules.{rules}
 use lib.ListN.{length}
-use Rattle.iban.proofs.Padded.{length-padded}
-use Rattle.iban.proofs.Blanks.{Dropping, starts, past_blank, past_char, beyond_ascii, no_character, ends}
-use Rattle.utf8.proofs.Chars.{Stands, stands, chars_bad, chars-end}
+use Rattle.iban.proofs.Blanks.{Dropping}
 use Rattle.iban.proofs.drop_blanks.Given as goal
 
 abbrev pub invariant-loop-at : goal.invariant-loop-at

@@ -1,8 +1,7 @@
 -- `iban::electronic_format` meets its contract: the first pass, the count, and the class steps on the text, whose places are put back into the lent field.
 use mathlib.Core.Path.{sym, ◌∙◌}
 use native.Mathlib.Omega.{arith}
-use borrow.Author.Rules.{rules}
-use Rattle.iban.proofs.Formats.{Whole, whole, stopped, format_whole, format_wrong}
+use Rattle.iban.proofs.Formats.{whole, stopped, format_whole, format_wrong}
 use Rattle.iban.proofs.electronic_format.Goals as goal
 
 pub slice_bounds-class_steps-end : goal.slice_bounds-class_steps-end

@@ -1,11 +1,9 @@
 -- `iban::place_of` meets its contract. The invariant: the place sought is that of the character so many further on, from here.
-use Prim.Native.Nat.{◌-◌, ◌≤◌}
-use mathlib.Core.Path.{◌≡◌, sym, ◌∙◌, ap}
+use mathlib.Core.Path.{sym, ◌∙◌, ap}
 use native.Mathlib.Omega.{arith}
-use lib.ListN.{length}
-use Rattle.utf8.proofs.Chars.{Stands, stands, chars_bad, chars-end}
-use Rattle.iban.specs.Electronic.{electronic, place_in}
-use Rattle.iban.proofs.Electronics.{electronic_at, electronic-start, place_blank, place_here, place-next, place_none}
+use Rattle.utf8.proofs.Chars.{stands, chars_bad, chars-end}
+use Rattle.iban.specs.Electronic.{place_in}
+use Rattle.iban.proofs.Electronics.{electronic-start, place_blank, place_here, place-next, place_none}
 use Rattle.iban.proofs.place_of.Goals as goal
 
 pub loop-at-init : goal.loop-at-init

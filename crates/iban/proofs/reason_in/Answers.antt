@@ -1,6 +1,5 @@
 -- `iban::reason_in` meets its contract: one test on the reason's number.
 use borrow.Author.Tests.{eq-eqb, ne_eqb}
-use borrow.Author.Rules.{rules}
 use Rattle.iban.specs.Iban.{reason_in}
 use Rattle.iban.proofs.reason_in.Goals as goal
 

@@ -1,5 +1,4 @@
 -- `iban::refused` meets its contract: no text where a step stopped.
-use borrow.Author.Rules.{rules}
 use Rattle.iban.specs.Format.{format_by}
 use Rattle.iban.proofs.refused.Goals as goal
 

@@ -2,7 +2,6 @@
 use Prim.Native.Nat.{ℕ}
 use mathlib.Core.Path.{sym, ◌∙◌, ap}
 use native.Mathlib.Omega.{arith}
-use borrow.Author.Rules.{rules}
 use Rattle.answer.proofs.Laws.{accept_is}
 use Rattle.checkdigit.specs.Sum.{iban_remainder}
 use Rattle.checkdigit.specs.RemainderStep.{remainder_step}
