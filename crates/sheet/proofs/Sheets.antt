@@ -7,7 +7,6 @@ use native.Mathlib.Omega.{arith}
 use borrow.Author.Tests.{eqb-true, eq-eqb, ne_eqb}
 use lib.Dec.{T, eqb}
 use lib.ListN.{length, take, drop, length-take}
-use lib.Seq.{take-length}
 use Rattle.text.specs.Same.{same_text}
 use Rattle.text.proofs.Ranges.{within-ends}
 use Rattle.text.proofs.Same.{same_text_lem, text_same}
