@@ -20,6 +20,7 @@ pub enum Request {
     Fill,
 }
 
+#[tactic(auto, unfolding(crate::specs::Repairs::sheet_step))]
 fn sheet_step(sheet: Sheet) -> Step
     ensures { result ≡ sheet_step sheet }
 {
@@ -29,6 +30,7 @@ fn sheet_step(sheet: Sheet) -> Step
     Step::Stop(Reason::NoSheet, 20)
 }
 
+#[tactic(auto, unfolding(crate::specs::Repairs::place_step))]
 fn place_step(length: usize, place: usize) -> Step
     ensures { result ≡ place_step length place }
 {
@@ -43,6 +45,7 @@ fn place_step(length: usize, place: usize) -> Step
     )
 }
 
+#[tactic(auto, unfolding(crate::specs::Repairs::byte_step))]
 fn byte_step(place: usize, byte: u8) -> Step
     ensures { result ≡ byte_step place byte }
 {
@@ -53,6 +56,7 @@ fn byte_step(place: usize, byte: u8) -> Step
 }
 
 // What a request gives, before it is made: its places and its byte.
+#[tactic(auto, unfolding(crate::specs::Repairs::given_steps))]
 fn given_steps(length: usize, request: Request) -> Step
     ensures { result ≡ given_steps length request }
 {
@@ -113,6 +117,7 @@ fn stamp(kind: u16, text: [u8; 34], d: u8) -> [u8; 34]
     put(put(text, place, 48 + d / 10), place + 1, 48 + d % 10)
 }
 
+#[tactic(auto, unfolding(crate::specs::Inner::filled_bytes))]
 fn filled(sheet: Sheet) -> [u8; 34]
     ensures { result ≡ filled_bytes sheet }
 {
@@ -127,6 +132,7 @@ fn filled(sheet: Sheet) -> [u8; 34]
 }
 
 // A sheet's 34 bytes with the repair made as asked.
+#[tactic(auto, unfolding(crate::specs::Inner::asked_bytes))]
 fn asked(sheet: Sheet, request: Request) -> [u8; 34]
     ensures { result ≡ asked_bytes sheet request }
 {
@@ -139,6 +145,7 @@ fn asked(sheet: Sheet, request: Request) -> [u8; 34]
 }
 
 // The repair to a new text: refused where it breaks a character step, and else loaded.
+#[tactic(auto, unfolding(crate::specs::Inner::renewed_by))]
 fn renewed(sheet: Sheet, t: &[u8]) -> Repaired
     ensures { result ≡ renewed_by (text_step sheet.kind t.now) sheet t.now }
 {

@@ -4,7 +4,7 @@ use mathlib.Core.Path.{◌≡◌, refl, sym, ◌∙◌, ap}
 use mathlib.Core.Bool.{Bool, true, false, cond}
 use mathlib.Core.List.{List, [], ◌∷◌}
 use native.Mathlib.Omega.{arith}
-use borrow.Author.Tests.{le-leb, eq-eqb, ne_eqb}
+use borrow.Author.Tests.{eq-eqb, ne_eqb}
 use lib.Dec.{T, eqb, ltb}
 use lib.ListN.{length, take, get_or}
 use lib.Seq.{take_all}
@@ -16,11 +16,10 @@ use Rattle.answer.specs.declared.Reason.{Reason}
 use Rattle.answer.specs.declared.Reason.TheVariants.{Length, Wrong, Remainder, UnknownKind}
 use Rattle.answer.specs.declared.Step.{Step}
 use Rattle.answer.specs.declared.Step.TheVariants.{Pass, Stop}
-use Rattle.text.specs.Ranges.{within}
 use Rattle.text.specs.Class.{allowed}
 use Rattle.text.specs.Field.{length_is, wrong_from, first_wrong}
 use Rattle.text.specs.declared.Set.{Set}
-use Rattle.text.proofs.Ranges.{is_true, within_yes, within-ends}
+use Rattle.text.proofs.Ranges.{is_true}
 use Rattle.utf8.proofs.Ascii.{ascii_prefix}
 use Rattle.checkdigit.specs.RemainderStep.{remainder_step}
 use Rattle.iban.specs.Electronic.{Character, place_in}
@@ -38,7 +37,7 @@ use Rattle.sheet.specs.Inner.{sheet_with}
 use Rattle.sheet.specs.declared.Sheet.{Sheet}
 use Rattle.sheet.specs.declared.Repaired.{Repaired}
 use Rattle.sheet.proofs.Plain.{plain_ascii}
-use Rattle.sheet.proofs.Fits.{Fit, by_kind, passes_both, fit_few, held_fit, held_plain}
+use Rattle.sheet.proofs.Fits.{Fit, by_kind, fit_few, held_fit, held_plain}
 
 -- a step that never answers 0 or 5
 record Quiet (x : Step) : Type 0 where

@@ -7,7 +7,6 @@ use native.Mathlib.Omega.{arith}
 use borrow.Author.Tests.{eqb-true, eq-eqb, ne_eqb}
 use lib.Dec.{T, eqb}
 use lib.ListN.{length, take, drop, length-take}
-use lib.Seq.{take-length}
 use Rattle.text.specs.Same.{same_text}
 use Rattle.text.proofs.Ranges.{within-ends}
 use Rattle.text.proofs.Same.{same_text_lem, text_same}
@@ -53,10 +52,10 @@ padded-past zero (b ∷ t) h = absurd (omega arith)
 padded-past (suc n) [] h = refl
 padded-past (suc n) (b ∷ t) h = ap (λ (l : List ℕ). b ∷ l) (padded-past n t (omega arith))
 
-pub copied_text : (t u zeros out : List ℕ) → zeros ≡ padded 34 [] → u ≡ take 34 t → out ≡ take (length u) u ++ drop (length u) zeros → out ≡ padded 34 (take 34 t)
+pub copied_text : (t u zeros out : List ℕ) → zeros ≡ padded 34 [] → u ≡ take 34 t → out ≡ u → out ++ drop (length u) zeros ≡ padded 34 (take 34 t)
 copied_text t u zeros out z f e =
     let few : length u ≤ 34 = omega (arith, ap length f, length-take 34 t) in
-    e ∙ rw (take-length u, z) (sym (padded-past 34 u few)) ∙ ap (padded 34) f
+    rw (e, z) (sym (padded-past 34 u few)) ∙ ap (padded 34) f
 
 pub held_of : (kind : ℕ) (t : List ℕ) → length t ≤ 34 → held (sheet_of kind t) ≡ t
 unfolding sheet_of

@@ -27,6 +27,7 @@ pub struct Repaired {
     pub sheet: Sheet,
 }
 
+#[tactic(auto, unfolding(crate::specs::Sheets::empty_sheet))]
 pub fn empty() -> Sheet
     ensures { result ≡ empty_sheet }
 {
@@ -78,6 +79,7 @@ pub fn characters(kind: u16, t: &[u8]) -> Step
     lei::characters(t)
 }
 
+#[tactic(auto, unfolding(crate::specs::Sheets::remainder_by))]
 pub fn remainder(kind: u16, t: &[u8]) -> u64
     ensures { result ≡ remainder_by kind t.now }
 {
@@ -92,7 +94,8 @@ fn copied(t: &[u8]) -> [u8; 34]
     ensures { result ≡ padded 34 (take 34 t.now) }
 {
     let mut text = iban::zeros();
-    bytes::copy(front(t, 34), &mut text);
+    let first = front(t, 34);
+    text[..first.len()].copy_from_slice(first);
     text
 }
 
@@ -121,6 +124,7 @@ fn sheet_of(kind: u16, field: &[u8]) -> Sheet
 }
 
 // The answer is 0 or 5: every step but the remainder passed.
+#[tactic(auto, unfolding(crate::specs::Load::summed))]
 fn is_summed(answer: Answer) -> bool
     ensures { result ≡ summed answer }
 {
@@ -160,6 +164,7 @@ fn same_text(a: [u8; 34], b: [u8; 34]) -> bool
     true
 }
 
+#[tactic(auto, unfolding(crate::specs::Sheets::same_sheet))]
 fn same(a: Sheet, b: Sheet) -> bool
     ensures { result ≡ same_sheet a b }
 {

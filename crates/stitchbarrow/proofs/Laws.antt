@@ -16,10 +16,6 @@ three (x ∷ []) a b c h = absurd (omega arith)
 three (x ∷ y ∷ []) a b c h = absurd (omega arith)
 three (x ∷ y ∷ z ∷ l) a b c h = refl
 
--- a copy that fills what it is copied to
-pub copied_whole : (s to out : List ℕ) → length to ≤ length s → out ≡ take (length s) s ++ drop (length s) to → out ≡ s
-copied_whole s to out h e = e ∙ rw (take-length s, drop_of_length-le to h) (append-nil s)
-
 -- a sheet's parts, each in its place
 pub laid : (s : Sheet) (b p q r t : List ℕ) → p ≡ to_bytes 2 s.kind → q ≡ to_bytes 2 s.length → r ≡ to_bytes 8 s.remainder → t ≡ s.text
     → put_mid 12 34 (put_mid 4 8 (put_mid 2 2 (p ++ drop 2 b) q) r) t ≡ sheet_bytes s ++ drop sheet_size b

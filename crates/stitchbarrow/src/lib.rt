@@ -1,4 +1,5 @@
-// The interface for C and other languages: functions over numbers and lent slices, as include/stitchbarrow.h declares them.
+// The interface for other languages: functions over numbers and lent slices, as include/stitchbarrow.h declares them. `stitchbarrow_c` exports
+// them to C.
 #![tactic(auto)]
 
 ghost use Rattle.std.specs.Prelude.{◌≡◌, ◌++◌, ◌≤◌, length, drop};
@@ -43,13 +44,13 @@ fn tell(a: Answer, answer: &mut [u8]) -> u8
     ensures { record { code = result; bytes = answer.new } ≡ answer_reply a answer.old }
 {
     let bytes = verdict::answer_bytes(a);
-    bytes::copy(&bytes, answer);
+    answer[..bytes.len()].copy_from_slice(&bytes);
     a.number()
 }
 
 // The answer to a field, written to the first 12 bytes of `answer`.
-#[unsafe(no_mangle)]
-pub extern "C" fn stitchbarrow_check(kind: u16, value: &[u8], answer: &mut [u8]) -> u8
+#[tactic(auto, unfolding(crate::specs::Reply::check_reply))]
+pub fn stitchbarrow_check(kind: u16, value: &[u8], answer: &mut [u8]) -> u8
     ensures { record { code = result; bytes = answer.new } ≡ check_reply kind value.now answer.old }
 {
     if answer.len() < ANSWER_SIZE {
@@ -59,8 +60,8 @@ pub extern "C" fn stitchbarrow_check(kind: u16, value: &[u8], answer: &mut [u8])
 }
 
 // A batch call; its counts (judged, read, written) are written to the first three elements of `counts`.
-#[unsafe(no_mangle)]
-pub extern "C" fn stitchbarrow_run(
+#[tactic(auto, using(crate::proofs::Laws::three), unfolding(crate::specs::Reply::run_reply))]
+pub fn stitchbarrow_run(
     batch: &[u8],
     offset: u64,
     out: &mut [u8],
@@ -88,7 +89,7 @@ fn read_sheet(b: &[u8]) -> Sheet
     let length = record::read_number(&b[2..4]) as usize;
     let remainder = record::read_number(&b[4..12]);
     let mut text = [0u8; 34];
-    bytes::copy(&b[12..46], &mut text);
+    text.copy_from_slice(&b[12..46]);
     Sheet {
         kind,
         length,
@@ -105,7 +106,7 @@ fn write_sheet(b: &mut [u8], s: Sheet)
     record::write_number(&mut b[2..4], s.length as u64);
     record::write_number(&mut b[4..12], s.remainder);
     let text = s.text;
-    bytes::copy(&text, &mut b[12..46]);
+    b[12..46].copy_from_slice(&text);
 }
 
 fn made(call: Call, value: &[u8], old: Sheet) -> Repaired
@@ -136,8 +137,7 @@ fn reply(call: Call, value: &[u8], sheet: &mut [u8], answer: &mut [u8]) -> u8
 }
 
 // Loads a field; the sheet that stood there before is the one that a refusal returns.
-#[unsafe(no_mangle)]
-pub extern "C" fn stitchbarrow_load(
+pub fn stitchbarrow_load(
     kind: u16,
     value: &[u8],
     sheet: &mut [u8],
@@ -149,8 +149,7 @@ pub extern "C" fn stitchbarrow_load(
 }
 
 // Puts a byte at a place of the held text.
-#[unsafe(no_mangle)]
-pub extern "C" fn stitchbarrow_replace(
+pub fn stitchbarrow_replace(
     sheet: &mut [u8],
     place: usize,
     byte: u8,
@@ -163,8 +162,7 @@ pub extern "C" fn stitchbarrow_replace(
 }
 
 // Exchanges the characters at two places of the held text.
-#[unsafe(no_mangle)]
-pub extern "C" fn stitchbarrow_exchange(
+pub fn stitchbarrow_exchange(
     sheet: &mut [u8],
     i: usize,
     j: usize,
@@ -177,8 +175,7 @@ pub extern "C" fn stitchbarrow_exchange(
 }
 
 // Sets the check digits of the held text.
-#[unsafe(no_mangle)]
-pub extern "C" fn stitchbarrow_fill(sheet: &mut [u8], answer: &mut [u8]) -> u8
+pub fn stitchbarrow_fill(sheet: &mut [u8], answer: &mut [u8]) -> u8
     ensures { record { code = result; sheet = sheet.new; answer = answer.new } ≡ sheet_reply (repair_of (sheet_at sheet.old) Request.Fill) sheet.old answer.old }
 {
     let request = Request::Fill;
