@@ -4,10 +4,10 @@ use mathlib.Core.Path.{◌≡◌, refl, sym, ap, ◌∙◌}
 use mathlib.Core.Bool.{true}
 use mathlib.Core.List.{List, ◌++◌, append_assoc}
 use native.Mathlib.Omega.{arith}
-use native.Mathlib.Nat.{add-zero, zero-add, sub_zero, add_assoc, sub-add-eq, add-sub_cancel_left}
+use native.Mathlib.Nat.{add-zero, zero-add, sub-zero, add_assoc, sub-add-eq, add-sub_cancel_left}
 use native.Mathlib.Numerals.{sub-one}
 use lib.Dec.{leb}
-use lib.ListN.{length, take, drop, take-append-drop, length-drop, length-append}
+use lib.ListN.{length, take, drop, length-drop, length-append}
 use lib.Seq.{drop-drop, take_at, drop_at, length-take-le}
 use borrow.Author.Tests.{lt-leb}
 use Rattle.record.specs.Head.{head_of}
@@ -62,7 +62,7 @@ pub record Going (batch : List ℕ) (offset : ℕ) (out₀ : List ℕ) (budget :
 
 pub start : (batch : List ℕ) (offset : ℕ) (out : List ℕ) (budget : ℕ) → Going batch offset out budget out 0 0 0
 start batch offset out budget =
-    record { spent = omega arith; inside = omega arith; room = omega arith; same = refl; rest = simp (zero-add, add-zero, sub_zero) }
+    record { spent = omega arith; inside = omega arith; room = omega arith; same = refl; rest = simp (zero-add, add-zero, sub-zero) }
 
 -- one turn of the loop, from what `judge_next` ensures of its result and of the output
 module _ (batch : List ℕ) (offset : ℕ) (out₀ : List ℕ) (budget : ℕ) (out : List ℕ) (done at w : ℕ) (g : Going batch offset out₀ budget out done at w)
@@ -74,9 +74,6 @@ module _ (batch : List ℕ) (offset : ℕ) (out₀ : List ℕ) (budget : ℕ) (o
   stop s e =
       g.rest ∙ ap (ahead done at w (take w out)) (walk-stop (budget - done) (drop at batch) (offset + at) (drop w out) s (told ∙ e))
       ∙ simp (q.1, e, add-zero)
-
-  pub kept : (s : Stop) → r ≡ Stops s → length last ≡ length out₀
-  kept s e = simp (q.1, e, take-append-drop) g.same
 
   pub may : (k n : ℕ) → r ≡ Judges k n → Judged (head_of (drop at batch)) (length (drop w out)) (budget - done) k n
   may k n e = judged _ _ _ _ _ (told ∙ e)

@@ -65,6 +65,7 @@ fn unless_spent(budget: u64, why: Stop) -> Act
 }
 
 // What a call does before a record, by the head that stands there, the room left in the output, and the budget left.
+#[tactic(auto, unfolding(crate::specs::Walk::next_of))]
 pub fn next(head: Head, room: usize, budget: u64) -> Act
     ensures { result ≡ next_of head room budget }
 {
@@ -91,7 +92,7 @@ fn write_verdict(out: &mut [u8], kind: u16, offset: u64, a: Answer)
     ensures { out.new ≡ verdict kind offset a ++ drop verdict_size out.old }
 {
     let v = verdict::verdict_bytes(kind, offset, a);
-    bytes::copy(&v, out);
+    out[..verdict::VERDICT_SIZE].copy_from_slice(&v);
 }
 
 // One turn: the record at `at` is judged, and its verdict written from `w` on; or nothing is written.

@@ -14,7 +14,7 @@ use Rattle.record.specs.declared.Head.TheVariants.{Record}
 use Rattle.record.proofs.Heads.{stands}
 use Rattle.record.proofs.Records.{Walks, none, one, walks, first, size, sizes-none}
 use Rattle.verdict.specs.Verdict.{verdict_size}
-use Rattle.batch.specs.Verdicts.{verdict_of, verdicts_of}
+use Rattle.batch.specs.Verdicts.{verdict_of}
 use Rattle.batch.specs.Walk.{next_of, Outcome, stopped, ahead, walk}
 use Rattle.batch.specs.declared.Stop.{Stop}
 use Rattle.batch.specs.declared.Stop.TheVariants.{Finished, Budget, Room, Cut, Offset, Long}

@@ -13,7 +13,7 @@ use Rattle.record.specs.declared.Head.{Head}
 use Rattle.record.proofs.Records.{walks, unique, rest, append, inside, increasing, rising, sizes-none, sizes-least, sizes-append}
 use Rattle.verdict.specs.Verdict.{verdict_size}
 use Rattle.batch.specs.Verdicts.{verdicts_of}
-use Rattle.batch.specs.Walk.{end_of, Outcome, stopped, walk, call_of}
+use Rattle.batch.specs.Walk.{end_of, Outcome, walk, call_of}
 use Rattle.batch.specs.declared.Stop.{Stop}
 use Rattle.batch.specs.declared.Stop.TheVariants.{Finished, Budget, Room, Cut, Offset, Long}
 use Rattle.batch.proofs.Verdicts.{length-verdicts_of, verdicts_of-none, verdicts_of-append}

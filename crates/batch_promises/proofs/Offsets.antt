@@ -26,5 +26,5 @@ offsets_read (none e) far (suc j) h = absurd (omega arith)
 offsets_read {s} {o} (one k n es e w) far (suc j) h =
     let a = record_at s o k n in
     let v = verdicts_of (take j es) in
-    let i = offsets_read w (omega (arith, length-drop (4 + n) s, (whole s k n e).fits)) j (omega arith) in
+    let i = offsets_read {s = drop (4 + n) s} {o = o + (4 + n)} w (omega (arith, length-drop (4 + n) s, (whole s k n e).fits)) j (omega arith) in
     rw (verdicts_of-more a (take j es), offset_read a v (omega arith), drop_at (verdict_of a) v verdict_size (length-verdict_of a), i)

@@ -1,10 +1,10 @@
--- Laws of parts of a slice: one that goes to its end, as `&l[w..]` gives it, and one that bytes are copied to.
+-- Laws of the part of a slice that goes to its end, as `&l[w..]` gives it.
 use Prim.Native.Nat.{ℕ, ◌-◌}
-use mathlib.Core.Path.{◌≡◌, ap, ◌∙◌}
+use mathlib.Core.Path.{◌≡◌, ap}
 use mathlib.Core.List.{List, [], ◌++◌, append-nil}
 use native.Mathlib.Omega.{arith}
 use lib.ListN.{length, take, drop, length-drop, drop_of_length-le}
-use lib.Seq.{take_all, take-length}
+use lib.Seq.{take_all}
 
 pub to_end : (w : ℕ) (l : List ℕ) → take (length l - w) (drop w l) ≡ drop w l
 to_end w l = take_all (length l - w) (drop w l) (omega (arith, length-drop w l))
@@ -15,7 +15,3 @@ past_end w l = drop_of_length-le (drop w l) {i = length l - w} (omega (arith, le
 -- the whole once such a part, lent as `&mut l[w..]`, is back
 pub put_back : (w : ℕ) (l last x : List ℕ) → last ≡ x → take w l ++ (last ++ drop (length l - w) (drop w l)) ≡ take w l ++ x
 put_back w l last x e = simp (past_end, append-nil) (ap (λ (k : List ℕ). take w l ++ k) e)
-
--- what `bytes::copy` leaves of bytes that are w, n of them, copied over the front of a slice
-pub copied : (n : ℕ) (s w to out : List ℕ) → s ≡ w → length w ≡ n → out ≡ take (length s) s ++ drop (length s) to → out ≡ w ++ drop n to
-copied n s w to out h l e = e ∙ rw (take-length s, h, l)

@@ -81,6 +81,7 @@ fn pair_at(s: &[u8], at: usize) -> u16
 }
 
 // What stands at the start of the rest of a batch: the one function that reads a record's head.
+#[tactic(auto, unfolding(crate::specs::Head::head_of))]
 pub fn read_head(rest: &[u8]) -> Head
     ensures { result ≡ head_of rest.now }
 {

@@ -147,6 +147,7 @@ pub fn lines(verdicts: &[u8], out: &mut [u8]) -> Rendered
 }
 
 // The first line: a word for each number of a row.
+#[tactic(auto, unfolding(crate::specs::Text::heading))]
 pub fn heading() -> [u8; 32]
     ensures { result ≡ heading }
 {

@@ -7,7 +7,7 @@ use native.Mathlib.Omega.{arith}
 use lib.ListN.{length, drop, length-append, length-drop}
 use lib.Seq.{drop-append-le, drop-drop}
 use Rattle.batch.specs.Walk.{call_of}
-use Rattle.batch_promises.specs.GoingOn.{Sum, sum_of, Call}
+use Rattle.batch_promises.specs.GoingOn.{sum_of, Call}
 use Rattle.batch_promises.proofs.GoingOn.{Part, Did, nothing_done, part_bytes, part_longer, did_plus, did_call, within}
 use Rattle.report.specs.Text.{verdict_lines}
 use Rattle.report.proofs.Texts.{text-append}

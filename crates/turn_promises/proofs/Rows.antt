@@ -29,7 +29,7 @@ text_rows {s} {o} (one k n es e w) b far (suc j) h =
     let a = record_at s o k n in
     let v = verdicts_of (take j es) in
     let f = (whole s k n e).fits in
-    let i = text_rows w (bytes_drop s (4 + n) b) (omega (arith, length-drop (4 + n) s)) j (omega arith) in
+    let i = text_rows {s = drop (4 + n) s} {o = o + (4 + n)} w (bytes_drop s (4 + n) b) (omega (arith, length-drop (4 + n) s)) j (omega arith) in
     rw (
       verdicts_of-more a (take j es),
       line_reads (verdict_of a ++ v) k o (check_field k a.value) (record_reads a v (holds s o k n e b (omega arith))),
