@@ -14,29 +14,28 @@ fn refuse(rt: &impl Eprint) {
     );
 }
 
-// The one argument, if there is one, is the stream offset of the first byte.
-fn main(rt: HostRuntime) {
+// The stream offset of the first byte, which the one argument gives, if there is one; none where the arguments are bad.
+fn start_of(rt: &HostRuntime) -> Option<u64> {
     let mut word = [0u8; WORD_MOST];
     match rt.arg(2, &mut word) {
         Err(FillError::NotPresent) => {}
-        _ => {
-            refuse(&rt);
-            return;
-        }
+        _ => return None,
     }
-    let n = match rt.arg(1, &mut word) {
-        Ok(n) => n,
-        Err(FillError::TooLong) => {
-            refuse(&rt);
-            return;
+    match rt.arg(1, &mut word) {
+        Ok(n) => match report::parse(&word[..n]) {
+            Offset::Is(x) => Some(x),
+            Offset::Not => None,
+        },
+        Err(FillError::TooLong) => None,
+        Err(FillError::NotPresent) => Some(0),
+    }
+}
+
+fn main(rt: HostRuntime) {
+    match start_of(&rt) {
+        Some(start) => {
+            service::run_from(&rt, &mut rt.stdin(), &mut rt.stdout(), start);
         }
-        Err(FillError::NotPresent) => {
-            service::run_from(&rt, &mut rt.stdin(), 0);
-            return;
-        }
-    };
-    match report::parse(&word[..n]) {
-        Offset::Is(x) => service::run_from(&rt, &mut rt.stdin(), x),
-        Offset::Not => refuse(&rt),
+        None => refuse(&rt),
     }
 }

@@ -3,7 +3,7 @@ use Prim.Native.Nat.{ℕ, zero, suc, ◌+◌, ◌-◌, ◌^◌, ◌≤◌, ◌<�
 use mathlib.Core.Path.{◌≡◌, refl, sym, ap, subst, ◌∙◌}
 use mathlib.Core.Bool.{true, false}
 use mathlib.Core.List.{List, [], ◌∷◌, ◌++◌, append-nil, append_assoc}
-use native.Mathlib.Nat.{sub_zero, zero-sub, suc-sub-suc, sub-add-eq, add-zero}
+use native.Mathlib.Nat.{sub-zero, zero-sub, suc-sub-suc, sub-add-eq, add-zero}
 use native.Mathlib.Numerals.{add-one}
 use native.Mathlib.Omega.{arith}
 use lib.ListN.{length, get_or, set, take, drop, length-append, length-drop, length-set}
@@ -22,7 +22,6 @@ use Rattle.batch_promises.proofs.Sizes.{Sized, sized, goes}
 use Rattle.turn.proofs.Laws.{room-least, room_in}
 use Rattle.service.specs.declared.State.{State}
 use Rattle.service.specs.declared.Next.{Next}
-use Rattle.service.specs.declared.Way.{Way}
 use Rattle.service.specs.declared.Way.TheVariants.{Again, Read, End}
 use Rattle.service.specs.declared.Ahead.{Ahead}
 use Rattle.service.specs.declared.Ahead.TheVariants.{Turn, LastLine, Nothing}
@@ -33,7 +32,7 @@ pub held-length : (buf : List ℕ) (s : State) → Good buf s → length (waitin
 held-length buf s g = length-take-le (s.end - s.at) (drop s.at buf) (omega (arith, length-drop s.at buf, g.order, g.within))
 
 drop-take : (m n : ℕ) (l : List ℕ) → drop m (take n l) ≡ take (n - m) (drop m l)
-drop-take zero n l = rw sub_zero
+drop-take zero n l = rw sub-zero
 drop-take (suc m) zero l = rw (zero-sub, drop-nil)
 drop-take (suc m) (suc n) [] = rw (drop-nil, take-nil)
 drop-take (suc m) (suc n) (x ∷ l) = rw suc-sub-suc (drop-take m n l)
@@ -154,7 +153,7 @@ pub shifted : (buf₀ buf : List ℕ) (s : State) → Good buf₀ s → length b
     → Shifted buf₀ buf s (record { at = 0; end = s.end - s.at; start = s.start; offset = s.offset; judged = s.judged; stop = s.stop })
 shifted buf₀ buf s g l e =
     record {
-      same = simp sub_zero e;
+      same = simp sub-zero e;
       at = refl;
       end = refl;
       start = refl;
@@ -263,7 +262,7 @@ nothing_is_turn e = let z : ◌≡◌ {A = ℕ} 0 1 = cc in absurd (omega arith)
 again_is_read : Again ≡ Read → ⊥
 again_is_read e = let z : ◌≡◌ {A = ℕ} 0 1 = cc in absurd (omega arith)
 
-end-is-read : End ≡ Read → ⊥
+pub end-is-read : End ≡ Read → ⊥
 end-is-read e = let z : ◌≡◌ {A = ℕ} 0 1 = cc in absurd (omega arith)
 
 -- bytes read in past those that are held, once these are at the front
@@ -276,7 +275,7 @@ module _ (buf₀ buf₁ part : List ℕ) (s t : State) (h : Shifted buf₀ buf�
   same_size = same_len_mid t.end (length buf₁ - t.end) buf₁ part l
 
   still_held : waiting read t ≡ waiting buf₁ t
-  still_held = rw (h.at, sub_zero) (take_put t.end (length buf₁ - t.end) buf₁ part h.good.within)
+  still_held = rw (h.at, sub-zero) (take_put t.end (length buf₁ - t.end) buf₁ part h.good.within)
 
   still_shifted : Shifted buf₀ read s t
   still_shifted =
@@ -457,7 +456,7 @@ pub record Going (start : ℕ) (buf₀ out₀ text₀ buf out text : List ℕ) (
   pub same_out : length out ≡ length out₀
   pub same_text : length text ≡ length text₀
 
-pub going_start : (start : ℕ) (buf out text : List ℕ) → start < 2 ^ 64 → Going start buf out text buf out text (first start)
+abbrev pub going_start : (start : ℕ) (buf out text : List ℕ) → start < 2 ^ 64 → Going start buf out text buf out text (first start)
 going_start start buf out text h =
     record { came = []; wrote = []; turns = begin buf; fits = h; same_buf = refl; same_out = refl; same_text = refl }
 
@@ -465,7 +464,7 @@ module _ (start : ℕ) (buf₀ out₀ text₀ buf out text : List ℕ) (n : Next
   pub going_good : Good buf n.s
   going_good = (turns-led g.turns).reached.good
 
-  pub going_on : (buf₁ out₁ text₁ : List ℕ) (m : Next) → n.ahead ≡ Turn → TurnAdds buf n.s buf₁ text₁ m → m.s.offset < 2 ^ 64
+  abbrev pub going_on : (buf₁ out₁ text₁ : List ℕ) (m : Next) → n.ahead ≡ Turn → TurnAdds buf n.s buf₁ text₁ m → m.s.offset < 2 ^ 64
       → length buf₁ ≡ length buf → length out₁ ≡ length out → length text₁ ≡ length text → Going start buf₀ out₀ text₀ buf₁ out₁ text₁ m
   going_on buf₁ out₁ text₁ m a t f b o x =
       record {

@@ -1,12 +1,20 @@
 -- What is promised of the program. `came` is all that reads gave, joined, and `wrote` all that was handed to writes after the heading:
 -- specs/Run.antt says so turn by turn, of what stands in the buffers. That a read gives what is in the input and a write takes what it is handed is the system's.
 use Prim.Native.Nat.{ℕ, ◌+◌, ◌-◌, ◌^◌, ◌<◌}
-use mathlib.Core.Path.{◌≡◌, sym, ap, subst, ◌∙◌}
-use mathlib.Core.Bool.{false}
-use mathlib.Core.List.{List, [], ◌++◌}
+use mathlib.Core.Path.{◌≡◌, refl, sym, ap, subst, ◌∙◌}
+use mathlib.Core.Bool.{true, false}
+use mathlib.Core.List.{List, [], ◌++◌, append-nil}
 use native.Mathlib.Omega.{arith}
-use lib.ListN.{length, take}
-use Rattle.batch.specs.declared.Stop.TheVariants.{Long}
+use lib.ListN.{length, take, length-append}
+use Rattle.std.specs.Prelude.{None, Some}
+use Rattle.std.specs.declared.option.Option.{Option}
+use Rattle.std.specs.Io.KnownBytes.{Appends}
+use Rattle.std.proofs.KnownBytes.{Appends-trans}
+use Rattle.record.specs.declared.Head.{Head}
+use Rattle.record.specs.declared.Head.TheVariants.{End, Short, TooLong, CutShort, Record}
+use Rattle.batch.specs.Walk.{end_of}
+use Rattle.batch.specs.declared.Stop.{Stop}
+use Rattle.batch.specs.declared.Stop.TheVariants.{Finished, Budget, Room, Cut, Offset, Long}
 use Rattle.record.specs.Records.{records_of}
 use Rattle.batch.specs.Verdicts.{verdicts_of}
 use Rattle.batch_promises.specs.GoingOn.{Sum, all_of, pauses}
@@ -18,8 +26,9 @@ use Rattle.turn_promises.proofs.Cutting.{Fed, fed_start, fed}
 use Rattle.service.specs.declared.State.{State}
 use Rattle.service.specs.declared.Next.{Next}
 use Rattle.service.specs.declared.Ahead.TheVariants.{LastLine}
-use Rattle.service.specs.Run.{Reached, Called, Served, Closing, last_row}
-use Rattle.service.proofs.Laws.{turns-led, turns_from}
+use Rattle.service.specs.declared.Way.TheVariants.{Read}
+use Rattle.service.specs.Run.{way_after, Reached, Called, Served, Passed, Closing, Answered, last_row}
+use Rattle.service.proofs.Laws.{turns-led, turns_from, nothing_is_last}
 
 module _ (came wrote buf : List ℕ) (s : State) (k : Called came wrote buf s) (h : s.start + length came < 2 ^ 64) where
   abbrev run : Stream
@@ -78,3 +87,54 @@ program_writes start buf text n k v e l h =
     ap (λ (t : List ℕ). heading ++ (v.wrote ++ t)) l.is
     ∙ whole_output v.came v.wrote buf n.s ((turns-led v.turns).ended e) (rw (turns_from v.turns) h)
     ∙ ap (output_of v.came) (turns_from v.turns)
+
+pauses_not : true ≡ false → ⊥
+pauses_not e = let z : ◌≡◌ {A = ℕ} 0 1 = cc in absurd (omega arith)
+
+-- no batch ends with stop 34 by what stands in it
+not_offset : (h : Head) → end_of h ≡ Offset → ⊥
+not_offset End e = let z : ◌≡◌ {A = ℕ} 0 1 = cc in absurd (omega arith)
+not_offset Short e = let z : ◌≡◌ {A = ℕ} 0 1 = cc in absurd (omega arith)
+not_offset TooLong e = let z : ◌≡◌ {A = ℕ} 0 1 = cc in absurd (omega arith)
+not_offset CutShort e = let z : ◌≡◌ {A = ℕ} 0 1 = cc in absurd (omega arith)
+not_offset (Record k n) e = let z : ◌≡◌ {A = ℕ} 0 1 = cc in absurd (omega arith)
+
+-- what was written after the heading and the last line are all that SCOPE asks for the bytes that came and those that are left: none are
+-- left, or the run was ended by a length above the limit, after which nothing is read
+module _ (came wrote buf : List ℕ) (s : State) (k : Called came wrote buf s) (rest : List ℕ) (h : s.start + length (came ++ rest) < 2 ^ 64)
+    (r : way_after s.stop ≡ Read → rest ≡ []) where
+  came_below : s.start + length came < 2 ^ 64
+  came_below = omega (arith, h, length-append came rest)
+
+  all_read : way_after s.stop ≡ Read → heading ++ (wrote ++ last_row s) ≡ output_of (came ++ rest) s.start
+  all_read w =
+      rw (r w, append-nil)
+      (whole_output came wrote buf s k came_below)
+
+  by_stop : (x : Stop) → s.stop ≡ x → heading ++ (wrote ++ last_row s) ≡ output_of (came ++ rest) s.start
+  by_stop Finished e = all_read (ap way_after e)
+  by_stop Budget e = absurd (pauses_not (sym (ap pauses e) ∙ k.ends))
+  by_stop Room e = absurd (pauses_not (sym (ap pauses e) ∙ k.ends))
+  by_stop Cut e = all_read (ap way_after e)
+  by_stop Offset e = absurd (not_offset _ (sym (last-numbers came wrote buf s k came_below).0 ∙ e))
+  by_stop Long e = whatever_follows came wrote buf s k came_below e rest
+
+  pub with_rest : heading ++ (wrote ++ last_row s) ≡ output_of (came ++ rest) s.start
+  with_rest = by_stop s.stop refl
+
+-- so where all was written, and it is known which bytes the reader had and which the writer holds, the writer gained what SCOPE asks for them
+pub answered : (start : ℕ) (left₀ left held₀ held₁ held₂ held₃ : Option (List ℕ)) (head buf text : List ℕ) (n : Next) (k : ℕ) → head ≡ heading
+    → Appends held₀ held₁ head → Passed start left₀ left held₁ held₂ buf n → n.ahead ≡ LastLine → Closing text n.s k
+    → Appends held₂ held₃ (take k text) → Answered left₀ start held₀ held₃
+answered start None left held₀ held₁ held₂ held₃ head buf text n k e a p l c b = tt
+answered start (Some bytes) None held₀ held₁ held₂ held₃ head buf text n k e a p l c b = absurd p.taken
+answered start (Some bytes) (Some rest) held₀ held₁ held₂ held₃ head buf text n k e a p l c b = λ h.
+    let q : Called p.came p.wrote buf n.s = (turns-led p.turns).ended l in
+    let f : n.s.start ≡ start = turns_from p.turns in
+    let g : bytes ≡ p.came ++ rest = p.taken in
+    let w : heading ++ (p.wrote ++ last_row n.s) ≡ output_of (p.came ++ rest) n.s.start = with_rest p.came p.wrote buf n.s q rest (rw (f, ← g) h) (p.end l) in
+    let v : Appends held₀ held₃ (head ++ (p.wrote ++ take k text)) =
+    Appends-trans held₀ held₁ held₃ head (p.wrote ++ take k text) a
+    (Appends-trans held₁ held₂ held₃ p.wrote (take k text) (p.given (λ o. nothing_is_last (sym o ∙ l))) b) in
+    let z : head ++ (p.wrote ++ take k text) ≡ output_of bytes start = rw (e, c.is, g, ← f) w in
+    rw z at v

@@ -1,18 +1,21 @@
 -- SCOPE, "The batch": the program "goes on after 31, 32 or a record that only its buffer cuts, until the input ends or stop 35".
 -- Its state is held against a run on lists (turn's specs/Stream.antt), with two lists beside it: all the bytes that reads gave, joined,
 -- which are `came`, and all the slices that were handed to writes after the heading, joined, which are `wrote`.
-use Rattle.std.specs.Prelude.{ℕ, ◌+◌, ◌-◌, ◌≤◌, ◌≡◌, false, List, [], ◌++◌, length, take, drop}
+use Rattle.std.specs.Prelude.{ℕ, ◌+◌, ◌-◌, ◌^◌, ◌≤◌, ◌<◌, ◌≡◌, false, List, [], ◌++◌, length, take, drop, IfSome}
+use Rattle.std.specs.declared.option.Option.{Option}
+use Rattle.std.specs.Io.KnownBytes.{Appends, Consumes, IsAtEnd}
 use Rattle.batch.specs.Walk.{stop_number}
 use Rattle.batch_promises.specs.GoingOn.{pauses, Call}
 use Rattle.batch.specs.declared.Stop.{Stop}
 use Rattle.batch.specs.declared.Stop.TheVariants.{Finished, Budget, Room, Cut, Offset, Long}
 use Rattle.report.specs.Text.{last_line}
+use Rattle.turn_promises.specs.Output.{output_of}
 use Rattle.turn_promises.specs.Stream.{Event, Stream, started, called, feed, input}
 use Rattle.service.specs.declared.State.{State}
 use Rattle.service.specs.declared.Next.{Next}
 use Rattle.service.specs.declared.Way.{Way}
 use Rattle.service.specs.declared.Way.TheVariants.{Again, Read, End}
-use Rattle.service.specs.declared.Ahead.TheVariants.{Turn, LastLine}
+use Rattle.service.specs.declared.Ahead.TheVariants.{Turn, LastLine, Nothing}
 
 -- what follows a stop: after 31 and 32 another call; at the end of what is held, or inside a record, more input; after 34 and 35 the end
 abbrev pub way_after : Stop → Way
@@ -72,6 +75,16 @@ pub record TurnAdds (buf₀ : List ℕ) (s : State) (buf text : List ℕ) (r : N
   pub led : (came wrote : List ℕ) → Reached came wrote buf₀ s → Led (came ++ came_in buf r) (wrote ++ take r.wrote text) buf r
   pub start : r.s.start ≡ s.start
 
+-- A reader may say which bytes it has left, and a writer which bytes it holds.
+-- A turn takes of the input the bytes that came in; and where the last line follows, nothing is left that was to be read
+pub record Took (left₀ left : Option (List ℕ)) (buf : List ℕ) (n : Next) : Type 0 where
+  pub taken : Consumes left₀ left (came_in buf n)
+  pub end : n.ahead ≡ LastLine → way_after n.s.stop ≡ Read → IsAtEnd left
+
+-- and it adds to the output what was handed to a write, unless one failed
+abbrev pub Gave : Option (List ℕ) → Option (List ℕ) → List ℕ → Next → Type 0
+Gave held₀ held text n = (n.ahead ≡ Nothing → ⊥) → Appends held₀ held (take n.wrote text)
+
 -- before the first turn: nothing is held, and nothing was judged
 abbrev pub first : ℕ → Next
 first start =
@@ -90,6 +103,15 @@ pub record Served (start : ℕ) (buf : List ℕ) (n : Next) : Type 0 where
   pub turns : Turns start came wrote buf n
   pub over : n.ahead ≡ Turn → ⊥
 
+-- and what they took of the input and added to the output
+pub record Passed (start : ℕ) (left₀ left held₀ held : Option (List ℕ)) (buf : List ℕ) (n : Next) : Type 0 where
+  pub came : List ℕ
+  pub wrote : List ℕ
+  pub turns : Turns start came wrote buf n
+  pub taken : Consumes left₀ left came
+  pub given : (n.ahead ≡ Nothing → ⊥) → Appends held₀ held wrote
+  pub end : n.ahead ≡ LastLine → way_after n.s.stop ≡ Read → IsAtEnd left
+
 -- the last line of a state: its stop, the records judged and their bytes
 abbrev pub last_row : State → List ℕ
 last_row s = last_line (stop_number s.stop) s.judged (s.offset - s.start)
@@ -98,3 +120,7 @@ last_row s = last_line (stop_number s.stop) s.judged (s.offset - s.start)
 pub record Closing (text : List ℕ) (s : State) (n : ℕ) : Type 0 where
   pub inside : n ≤ length text
   pub is : take n text ≡ last_row s
+
+-- the output has gained all that SCOPE asks for the input's bytes
+abbrev pub Answered : Option (List ℕ) → ℕ → Option (List ℕ) → Option (List ℕ) → Type 0
+Answered left start held₀ held = IfSome left (λ bytes. start + length bytes < 2 ^ 64 → Appends held₀ held (output_of bytes start))

@@ -1,21 +1,23 @@
-// The program's run: a batch is read from its input, judged turn by turn, and its verdicts are written to standard output as text.
+// The program's run: a batch is read from a reader, judged turn by turn, and its verdicts are written as text to a writer.
 //
 // Turns follow each other until the input ends, or fails, or cannot be gone on with. A turn judges the whole records of what its buffer
-// holds, hands their lines to one write and, where no whole record is left, reads once. No contract can say which bytes a read gives or
-// a write takes, so each function says what it handed over: the lines stand at the start of `text`, the bytes that came at the end of
-// what `buf` holds, and how many there are of each comes from `write_out` and `read_some`. `step` says that each turn adds both to what
-// went before, and proofs/Promises.antt that in the end all the lines are what SCOPE asks for all the bytes.
+// holds, hands their lines to one write and, where no whole record is left, reads once. No contract can say which bytes standard input gives
+// or standard output takes, so each function says what it handed over: the lines stand at the start of `text`, the bytes that came at the
+// end of what `buf` holds, and how many there are of each comes from `write_out` and `read_some`. `step` says that each turn adds both to
+// what went before, and proofs/Promises.antt that in the end all the lines are what SCOPE asks for all the bytes. Of a reader and a writer
+// that do say which bytes they have, as one in memory, `run_from` promises just that.
 #![tactic(auto)]
 
-ghost use Rattle.std.specs.Prelude.{◌≡◌, ◌+◌, ◌≤◌, ◌<◌, length, take, drop};
+ghost use Rattle.std.specs.Prelude.{◌≡◌, ◌+◌, ◌≤◌, ◌<◌, true, length, take, drop};
 ghost use Rattle.std.specs.Io.{ReadsAtMost};
+ghost use Rattle.std.specs.Io.KnownBytes.{Appends, ReadConsumes};
 ghost use Rattle.report.specs.Text.{last_most};
-ghost use Rattle.service.specs.Run.{way_after, Good, TurnAdds, Served, Closing};
+ghost use Rattle.service.specs.Run.{way_after, Good, TurnAdds, Took, Gave, Served, Passed, Closing, Answered};
 ghost use Rattle.service.specs.Inner.{call_with, Judging, Shifted, More, Moved, Roomy};
 
 use batch::Stop;
 use std::io;
-use std::io::Read;
+use std::io::{Read, Write};
 
 // The bytes that the buffer holds: a read asks for all that there is room for. The longest record has 4 + 8,192.
 const BUFFER: usize = 65536;
@@ -146,11 +148,12 @@ fn tell(rt: &impl Eprint, what: &str, why: io::Error) {
 }
 
 // Hands a part to standard output, and says how much that was. All that the program writes goes through here.
-fn write_out<R: Print + Eprint>(rt: &R, part: &[u8]) -> Written
-    ensures { result.size ≡ length part.now }
+fn write_out<R: Eprint, W: Write>(rt: &R, output: &mut W, part: &[u8]) -> Written
+    ensures size { result.size ≡ length part.now }
+    ensures whole { result.whole ≡ true → Appends (W.contents output.old) (W.contents output.new) part.now }
 {
     let size = part.len();
-    let whole = match rt.write_all(part) {
+    let whole = match output.write_all(part) {
         Ok(()) => true,
         Err(why) => {
             tell(rt, "standard output", why);
@@ -163,7 +166,8 @@ fn write_out<R: Print + Eprint>(rt: &R, part: &[u8]) -> Written
 // Reads once into a part that is not empty, so that 0 says that the input has ended.
 fn read_some<I: Read>(input: &mut I, part: &mut [u8]) -> io::Result<usize>
     requires { 0 < length part.old }
-    ensures { ReadsAtMost result part.new }
+    ensures most { ReadsAtMost result part.new }
+    ensures taken { ReadConsumes (I.remaining input.old) (I.remaining input.new) result part.new }
 {
     input.read(part)
 }
@@ -180,6 +184,7 @@ fn read_more<R: Eprint, I: Read>(
     requires end_bound { s.end < s.at + length buf.old }
     ensures more { More buf.old s wrote buf.new result }
     ensures moved { Moved s result }
+    ensures took { Took (I.remaining input.old) (I.remaining input.new) buf.new result }
 {
     let t = shift(buf, s);
     let end = t.end;
@@ -221,9 +226,10 @@ fn read_more<R: Eprint, I: Read>(
 }
 
 // A turn: judges what is held, writes the lines, and reads on where no whole record is left.
-fn step<R: Print + Eprint, I: Read>(
+fn step<R: Eprint, I: Read, W: Write>(
     rt: &R,
     input: &mut I,
+    output: &mut W,
     buf: &mut [u8],
     out: &mut [u8],
     text: &mut [u8],
@@ -233,11 +239,13 @@ fn step<R: Print + Eprint, I: Read>(
     requires roomy { Roomy buf.old out.old text.old }
     ensures turn_adds { TurnAdds buf.old s buf.new text.new result }
     ensures moved { Moved s result }
+    ensures took { Took (I.remaining input.old) (I.remaining input.new) buf.new result }
+    ensures gave { Gave (W.contents output.old) (W.contents output.new) text.new result }
 {
     let t = judge_held(buf, out, text, s);
     let u = t.s;
     let n = t.text;
-    let w = write_out(rt, &text[..n]);
+    let w = write_out(rt, output, &text[..n]);
     let wrote = w.size;
     if !w.whole {
         return Next {
@@ -266,16 +274,18 @@ fn step<R: Print + Eprint, I: Read>(
 }
 
 // Turns, for as long as one follows.
-fn serve<R: Print + Eprint, I: Read>(
+fn serve<R: Eprint, I: Read, W: Write>(
     rt: &R,
     input: &mut I,
+    output: &mut W,
     buf: &mut [u8],
     out: &mut [u8],
     text: &mut [u8],
     start: u64,
 ) -> Next
     requires { Roomy buf.old out.old text.old }
-    ensures { Served start buf.new result }
+    ensures served { Served start buf.new result }
+    ensures passed { Passed start (I.remaining input.old) (I.remaining input.new) (W.contents output.old) (W.contents output.new) buf.new result }
 {
     let mut n = Next {
         s: State {
@@ -295,7 +305,7 @@ fn serve<R: Print + Eprint, I: Read>(
         match ahead {
             Ahead::Turn => {
                 let s = n.s;
-                n = step(rt, input, buf, out, text, s);
+                n = step(rt, input, output, buf, out, text, s);
             }
             Ahead::LastLine => return n,
             Ahead::Nothing => return n,
@@ -312,21 +322,34 @@ fn last_line(text: &mut [u8], s: State) -> usize
     report::last_line(text, stop.number() as u64, s.judged, s.offset - s.start)
 }
 
-// The whole run: the heading, the turns and, unless input or output failed, the last line.
-pub fn run_from<R: Print + Eprint, I: Read>(rt: &R, input: &mut I, start: u64) {
+// The whole run: the heading, the turns and, unless input or output failed, the last line. Whether all was written, the last line too.
+// Then the output has what SCOPE asks for the input's bytes, where the reader and the writer say which bytes they have.
+pub fn run_from<R: Eprint, I: Read, W: Write>(
+    rt: &R,
+    input: &mut I,
+    output: &mut W,
+    start: u64,
+) -> bool
+    ensures { result ≡ true → Answered (I.remaining input.old) start (W.contents output.old) (W.contents output.new) }
+{
     let head = report::heading();
-    let h = write_out(rt, &head);
+    let h = write_out(rt, output, &head);
     if !h.whole {
-        return;
+        return false;
     }
     let mut buf = [0u8; BUFFER];
     let mut out = [0u8; RECORDS * verdict::VERDICT_SIZE];
     let mut text = [0u8; RECORDS * report::LINE_MOST];
-    let n = serve(rt, input, &mut buf, &mut out, &mut text, start);
+    let n = serve(rt, input, output, &mut buf, &mut out, &mut text, start);
     let ahead = n.ahead;
-    if let Ahead::LastLine = ahead {
-        let s = n.s;
-        let k = last_line(&mut text, s);
-        write_out(rt, &text[..k]);
+    match ahead {
+        Ahead::LastLine => {
+            let s = n.s;
+            let k = last_line(&mut text, s);
+            let w = write_out(rt, output, &text[..k]);
+            w.whole
+        }
+        Ahead::Turn => false,
+        Ahead::Nothing => false,
     }
 }
