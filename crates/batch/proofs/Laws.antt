@@ -7,7 +7,7 @@ use native.Mathlib.Omega.{arith}
 use native.Mathlib.Nat.{add-zero, zero-add, sub-zero, add_assoc, sub-add-eq, add-sub_cancel_left}
 use native.Mathlib.Numerals.{sub-one}
 use lib.Dec.{leb}
-use lib.ListN.{length, take, drop, length-drop, length-append}
+use lib.ListN.{length, take, drop, take-append-drop, length-drop, length-append}
 use lib.Seq.{drop-drop, take_at, drop_at, length-take-le}
 use borrow.Author.Tests.{lt-leb}
 use Rattle.record.specs.Head.{head_of}
@@ -74,6 +74,9 @@ module _ (batch : List ℕ) (offset : ℕ) (out₀ : List ℕ) (budget : ℕ) (o
   stop s e =
       g.rest ∙ ap (ahead done at w (take w out)) (walk-stop (budget - done) (drop at batch) (offset + at) (drop w out) s (told ∙ e))
       ∙ simp (q.1, e, add-zero)
+
+  pub kept : (s : Stop) → r ≡ Stops s → length last ≡ length out₀
+  kept s e = simp (q.1, e, take-append-drop) g.same
 
   pub may : (k n : ℕ) → r ≡ Judges k n → Judged (head_of (drop at batch)) (length (drop w out)) (budget - done) k n
   may k n e = judged _ _ _ _ _ (told ∙ e)

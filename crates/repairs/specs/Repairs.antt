@@ -1,6 +1,6 @@
 -- SCOPE, "The repair sheet": what replace, exchange and fill make of the held text, and their refusals 20, 21 and 22 in this order.
 -- "Otherwise the repair is done and answers as a fresh check of the new text."
-use Rattle.std.specs.Prelude.{ℕ, List, eqb, ltb, length, set, cond}
+use Rattle.std.specs.Prelude.{ℕ, List, ltb, length, set}
 use Rattle.answer.specs.Steps.{must, ◌and_then◌}
 use Rattle.answer.specs.Table.{row_of}
 use Rattle.answer.specs.declared.Reason.TheVariants.{NoSheet, NoPlace, Unfit}

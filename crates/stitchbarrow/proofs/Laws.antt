@@ -1,11 +1,11 @@
--- Lists written part by part: three elements stored at the front, a part copied whole, and the four parts of a sheet.
+-- Lists written part by part: three elements stored at the front, and the four parts of a sheet.
 use Prim.Native.Nat.{ℕ, ◌≤◌}
-use mathlib.Core.Path.{◌≡◌, refl, ap, ◌∙◌}
-use mathlib.Core.List.{List, [], ◌∷◌, ◌++◌, append-nil}
+use mathlib.Core.Path.{◌≡◌, refl, ap}
+use mathlib.Core.List.{List, [], ◌∷◌, ◌++◌}
 use native.Mathlib.Omega.{arith}
 use borrow.Rule.Slice.PartMut.{put_mid}
-use lib.ListN.{length, set, take, drop, drop_of_length-le}
-use lib.Seq.{take-length, drop-drop}
+use lib.ListN.{length, set, drop}
+use lib.Seq.{drop-drop}
 use Rattle.record.specs.Number.{to_bytes}
 use Rattle.stitchbarrow.specs.Sheets.{sheet_size, sheet_bytes}
 use Rattle.sheet.specs.declared.Sheet.{Sheet}

@@ -6,7 +6,7 @@ use borrow.Author.Tests.{lt-ltb, le-ltb}
 use lib.ListN.{length}
 use Rattle.sheet.specs.declared.Repaired.{Repaired}
 use Rattle.stitchbarrow.specs.Sheets.{sheet_size}
-use Rattle.stitchbarrow.specs.Reply.{answer_size, SheetReply, handed, sheet_reply}
+use Rattle.stitchbarrow.specs.Reply.{answer_size, handed, sheet_reply}
 
 module _ (r : Repaired) (sheet answer : List ℕ) where
   pub short-sheet : length sheet < sheet_size → record { code = 255; sheet = sheet; answer = answer } ≡ sheet_reply r sheet answer

@@ -137,24 +137,14 @@ fn reply(call: Call, value: &[u8], sheet: &mut [u8], answer: &mut [u8]) -> u8
 }
 
 // Loads a field; the sheet that stood there before is the one that a refusal returns.
-pub fn stitchbarrow_load(
-    kind: u16,
-    value: &[u8],
-    sheet: &mut [u8],
-    answer: &mut [u8],
-) -> u8
+pub fn stitchbarrow_load(kind: u16, value: &[u8], sheet: &mut [u8], answer: &mut [u8]) -> u8
     ensures { record { code = result; sheet = sheet.new; answer = answer.new } ≡ sheet_reply (load_of kind value.now (sheet_at sheet.old)) sheet.old answer.old }
 {
     reply(Call::Load { kind }, value, sheet, answer)
 }
 
 // Puts a byte at a place of the held text.
-pub fn stitchbarrow_replace(
-    sheet: &mut [u8],
-    place: usize,
-    byte: u8,
-    answer: &mut [u8],
-) -> u8
+pub fn stitchbarrow_replace(sheet: &mut [u8], place: usize, byte: u8, answer: &mut [u8]) -> u8
     ensures { record { code = result; sheet = sheet.new; answer = answer.new } ≡ sheet_reply (repair_of (sheet_at sheet.old) (Request.Replace place byte)) sheet.old answer.old }
 {
     let request = Request::Replace { place, byte };
@@ -162,12 +152,7 @@ pub fn stitchbarrow_replace(
 }
 
 // Exchanges the characters at two places of the held text.
-pub fn stitchbarrow_exchange(
-    sheet: &mut [u8],
-    i: usize,
-    j: usize,
-    answer: &mut [u8],
-) -> u8
+pub fn stitchbarrow_exchange(sheet: &mut [u8], i: usize, j: usize, answer: &mut [u8]) -> u8
     ensures { record { code = result; sheet = sheet.new; answer = answer.new } ≡ sheet_reply (repair_of (sheet_at sheet.old) (Request.Exchange i j)) sheet.old answer.old }
 {
     let request = Request::Exchange { i, j };
