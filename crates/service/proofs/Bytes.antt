@@ -29,9 +29,9 @@ took_failed left₀ left buf s w k =
     record { taken = Consumes-kept left₀ left₀ left [] (Consumes-nil left₀) k; end = λ e f. absurd (nothing_is_last e) }
 
 -- where a read gives no byte, none is left
-pub took-end : (left₀ left : Option (List ℕ)) (buf part : List ℕ) (s : State) (w n : ℕ) → n ≡ 0 → Consumes left₀ left (take n part) → IsAtEnd left
+pub took_end : (left₀ left : Option (List ℕ)) (buf part : List ℕ) (s : State) (w n : ℕ) → n ≡ 0 → Consumes left₀ left (take n part) → IsAtEnd left
     → Took left₀ left buf (record { s = s; ahead = LastLine; wrote = w; came = 0 })
-took-end left₀ left buf part s w n z c e = record { taken = rw z at c; end = λ a b. e }
+took_end left₀ left buf part s w n z c e = record { taken = rw z at c; end = λ a b. e }
 
 -- the first n bytes of the part stand after those that are held
 pub came_is : (buf part : List ℕ) (end k n : ℕ) → end ≤ length buf → n ≤ length part

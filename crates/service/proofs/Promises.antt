@@ -1,5 +1,6 @@
 -- What is promised of the program. `came` is all that reads gave, joined, and `wrote` all that was handed to writes after the heading:
 -- specs/Run.antt says so turn by turn, of what stands in the buffers. That a read gives what is in the input and a write takes what it is handed is the system's.
+-- Of a reader and a writer that say which bytes they have, the last theorem here, which is `run_from`'s contract, says that too.
 use Prim.Native.Nat.{ℕ, ◌+◌, ◌-◌, ◌^◌, ◌<◌}
 use mathlib.Core.Path.{◌≡◌, refl, sym, ap, subst, ◌∙◌}
 use mathlib.Core.Bool.{true, false}

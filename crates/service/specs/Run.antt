@@ -75,7 +75,7 @@ pub record TurnAdds (buf₀ : List ℕ) (s : State) (buf text : List ℕ) (r : N
   pub led : (came wrote : List ℕ) → Reached came wrote buf₀ s → Led (came ++ came_in buf r) (wrote ++ take r.wrote text) buf r
   pub start : r.s.start ≡ s.start
 
--- A reader may say which bytes it has left, and a writer which bytes it holds.
+-- A reader may say which bytes it has left, and a writer which bytes it holds; of one that does not (`None`) nothing is claimed.
 -- A turn takes of the input the bytes that came in; and where the last line follows, nothing is left that was to be read
 pub record Took (left₀ left : Option (List ℕ)) (buf : List ℕ) (n : Next) : Type 0 where
   pub taken : Consumes left₀ left (came_in buf n)
