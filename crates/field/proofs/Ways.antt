@@ -66,7 +66,7 @@ module _ (n : ℕ) where
       (line 10 (λ s. refl, low-ascii _ lenient_low) (λ u. absurd (omega arith))))))))))
       l
 
--- .. in its two parts, as a check finds them alone
+-- what suits a kind whose rule is asked first, in its two parts: so the check finds them by itself
 pub admitted_text : (n : ℕ) (s : List ℕ) → 2 ≤ n → n ≤ 10 → admission n s ≡ limit_step s and_then utf8_step s
 admitted_text n s l h = (rule_first n l h).0 s
 

@@ -1,4 +1,5 @@
--- `run_from` is safe: no record is counted before the first byte, and the last line lies inside the text.
+-- `run_from` meets its contract: heading, turns and last line are what was asked for; no record is counted before the first byte, and the last
+-- line lies inside the text.
 use mathlib.Core.Path.{sym}
 use native.Mathlib.Omega.{arith}
 use lib.Seq.{length-take-le}
