@@ -1,4 +1,4 @@
-//! Names the archive to link, which `rt staticlib stitchbarrow` makes.
+//! Names the archive to link, which `tests/build archive` makes.
 fn main() {
     let archive = format!("{}/../../target/staticlib", env!("CARGO_MANIFEST_DIR"));
     println!("cargo:rustc-link-search=native={archive}");
