@@ -7,6 +7,7 @@ ghost use Rattle.amount.specs.Amount.{start, at_most, part, fraction, no_minus, 
 use answer::{Answer, Reason, Step};
 use text::Set;
 
+#[tactic(auto, unfolding(crate::specs::Amount::no_minus))]
 fn no_minus(s: &[u8]) -> Step
     ensures { result ≡ no_minus s.now }
 {
@@ -18,6 +19,7 @@ fn no_minus(s: &[u8]) -> Step
 }
 
 // The place of the integer part: one `+` is skipped.
+#[tactic(auto, unfolding(crate::specs::Amount::start))]
 fn start(s: &[u8]) -> usize
     ensures { result ≡ start s.now }
 {
@@ -31,6 +33,7 @@ fn apart(from: usize, to: usize) -> usize
     if from < to { to - from } else { 0 }
 }
 
+#[tactic(auto, unfolding(crate::specs::Amount::at_most))]
 fn at_most(most: usize, from: usize, count: usize, check: u16) -> Step
     ensures { result ≡ at_most most from count check }
 {
@@ -81,6 +84,7 @@ fn all_zero(s: &[u8]) -> bool
     true
 }
 
+#[tactic(auto, unfolding(crate::specs::Amount::not_zero))]
 fn not_zero(s: &[u8]) -> Step
     ensures { result ≡ not_zero s.now }
 {

@@ -42,6 +42,7 @@ pub fn validate_iso_date(s: &[u8]) -> Answer
     }
 }
 
+#[tactic(auto, unfolding(crate::specs::Datetime::length_from))]
 fn length_from(s: &[u8], n: usize, check: u16) -> Step
     ensures { result ≡ length_from n s.now check }
 {
@@ -120,6 +121,7 @@ fn sign(b: u8) -> bool
     if b == b'+' { true } else { b == b'-' }
 }
 
+#[tactic(auto, unfolding(crate::specs::Datetime::ends_at))]
 fn ends_at(s: &[u8], i: usize, check: u16) -> Step
     ensures { result ≡ ends_at s.now i check }
 {

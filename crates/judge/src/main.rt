@@ -1,6 +1,10 @@
 // The program: reads a batch from standard input and writes its verdicts as text. Its argument is the stream offset of the first byte.
 #![tactic(auto)]
 
+ghost use Rattle.std.specs.Prelude.{◌≡◌, MatchOption};
+ghost use Rattle.report.specs.Offset.{offset_of};
+ghost use Rattle.report.specs.declared.Offset.{Offset};
+
 use report::Offset;
 use std::env::{Env, FillError};
 
@@ -14,28 +18,35 @@ fn refuse(rt: &impl Eprint) {
     );
 }
 
-// The stream offset of the first byte, which the one argument gives, if there is one; none where the arguments are bad.
-fn start_of(rt: &HostRuntime) -> Option<u64> {
+// The stream offset of the first byte: what the argument writes, and 0 where there is none.
+fn offset_in(word: Option<&[u8]>) -> Offset
+    ensures { MatchOption word.entry (result ≡ Offset.Is 0) (λ w. result ≡ offset_of w.now) }
+{
+    match word {
+        Some(w) => report::parse(w),
+        None => Offset::Is(0),
+    }
+}
+
+// The same from the system's arguments; none where there are two, or one that does not fit.
+fn start_of(rt: &HostRuntime) -> Offset {
     let mut word = [0u8; WORD_MOST];
     match rt.arg(2, &mut word) {
         Err(FillError::NotPresent) => {}
-        _ => return None,
+        _ => return Offset::Not,
     }
     match rt.arg(1, &mut word) {
-        Ok(n) => match report::parse(&word[..n]) {
-            Offset::Is(x) => Some(x),
-            Offset::Not => None,
-        },
-        Err(FillError::TooLong) => None,
-        Err(FillError::NotPresent) => Some(0),
+        Ok(n) => offset_in(Some(&word[..n])),
+        Err(FillError::TooLong) => Offset::Not,
+        Err(FillError::NotPresent) => offset_in(None),
     }
 }
 
 fn main(rt: HostRuntime) {
     match start_of(&rt) {
-        Some(start) => {
+        Offset::Is(start) => {
             service::run_from(&rt, &mut rt.stdin(), &mut rt.stdout(), start);
         }
-        None => refuse(&rt),
+        Offset::Not => refuse(&rt),
     }
 }

@@ -256,6 +256,7 @@ fn between(low: u64, high: u64, n: u64) -> bool
 }
 
 // A number that was read at a place lies from low to high.
+#[tactic(auto, unfolding(crate::specs::Field::in_range))]
 pub fn in_range(i: usize, low: u64, high: u64, n: u64, check: u32) -> Step
     ensures { result ≡ in_range i low high n check }
 {
