@@ -2,7 +2,7 @@
 use mathlib.Core.Path.{◌≡◌, refl}
 use mathlib.Core.List.{[], ◌∷◌, map}
 use Rattle.answer.specs.Steps.{◌and_then◌, ◌or_accept◌}
-use Rattle.answer.specs.declared.Answer.TheVariants.{Accepted, Refused}
+use Rattle.answer.specs.Result.{Accepted, Refused}
 use Rattle.answer.specs.declared.Reason.TheVariants.{Length, Wrong, NotPositive, Missing}
 use Rattle.text.specs.Class.{class_of}
 use Rattle.text.specs.Field.{present, first_place, first_wrong, wrong_from}

@@ -1,10 +1,8 @@
 -- SCOPE, "The ten kinds", 6: amounts, defined there and by no other document: sign, integer part, what follows the first `.`, and zero.
 use Rattle.std.specs.Prelude.{ℕ, ◌+◌, ◌-◌, Bool, true, false, not, cond, List, [], ◌∷◌, eqb, leb, ltb, length, get_or}
 use Rattle.answer.specs.Steps.{check, must, ◌and_then◌, ◌or_accept◌}
-use Rattle.answer.specs.declared.Answer.{Answer}
+use Rattle.answer.specs.Result.{Answer, Step, Pass}
 use Rattle.answer.specs.declared.Reason.TheVariants.{Length, NotPositive}
-use Rattle.answer.specs.declared.Step.{Step}
-use Rattle.answer.specs.declared.Step.TheVariants.{Pass}
 use Rattle.text.specs.Ranges.{within}
 use Rattle.text.specs.Field.{dot, present, first_wrong}
 use Rattle.text.specs.declared.Set.TheVariants.{Digits}

@@ -4,11 +4,10 @@ use mathlib.Core.Path.{◌≡◌, refl}
 use mathlib.Core.Bool.{Bool, true, false}
 use native.Mathlib.Omega.{arith}
 use lib.Dec.{T}
+use Rattle.std.specs.Prelude.{Err}
 use Rattle.answer.specs.declared.Reason.{Reason}
-use Rattle.answer.specs.declared.Answer.{Answer}
-use Rattle.answer.specs.declared.Answer.TheVariants.{Accepted, Refused}
-use Rattle.answer.specs.declared.Step.{Step}
-use Rattle.answer.specs.declared.Step.TheVariants.{Pass, Stop}
+use Rattle.answer.specs.Result.{Answer, Accepted, Refused}
+use Rattle.answer.specs.Result.{Step, Pass, Stop}
 use Rattle.answer.specs.Steps.{must, ◌and_then◌, ◌or_accept◌}
 
 pub then_is : {r a b a' b' : Step} → r ≡ a and_then b → a ≡ a' → b ≡ b' → r ≡ a' and_then b'
@@ -31,13 +30,13 @@ passes b e = rw e
 pub both_pass : (a b : Step) → a and_then b ≡ Pass → (a ≡ Pass) × (b ≡ Pass)
 unfolding ◌and_then◌
 both_pass Pass b e = (refl, e)
-both_pass (Stop r k) b e = let z : ◌≡◌ {A = ℕ} 0 1 = cc in absurd (omega arith)
+both_pass (Err x) b e = let z : ◌≡◌ {A = ℕ} 0 1 = cc in absurd (omega arith)
 
 -- a rule that accepts has passed each step
 pub accepted_pass : (a : Step) (m n : ℕ) → a or_accept m ≡ Accepted n → a ≡ Pass
 unfolding ◌or_accept◌
 accepted_pass Pass m n e = refl
-accepted_pass (Stop r k) m n e = let z : ◌≡◌ {A = ℕ} 0 1 = cc in absurd (omega arith)
+accepted_pass (Err x) m n e = let z : ◌≡◌ {A = ℕ} 0 1 = cc in absurd (omega arith)
 
 -- a test that let the chain pass held
 pub test_held : (t : Bool) (r : Reason) (k : ℕ) → must t r k ≡ Pass → T t
@@ -48,4 +47,4 @@ test_held false r k e = let z : ◌≡◌ {A = ℕ} 0 1 = cc in absurd (omega ar
 pub regroup : (a b d : Step) → (a and_then b) and_then d ≡ a and_then (b and_then d)
 unfolding ◌and_then◌
 regroup Pass b d = refl
-regroup (Stop r k) b d = refl
+regroup (Err x) b d = refl

@@ -5,9 +5,7 @@ use mathlib.Core.List.{List, [], ◌∷◌, map}
 use Rattle.answer.specs.Table.{row, numbers_of, check_of}
 use Rattle.answer.specs.Steps.{must, ◌and_then◌, ◌or_accept◌}
 use Rattle.answer.specs.declared.Reason.TheVariants.{Wrong, Range, Remainder, NotListed, Missing}
-use Rattle.answer.specs.declared.Answer.{Answer}
-use Rattle.answer.specs.declared.Answer.TheVariants.{Accepted, Refused}
-use Rattle.answer.specs.declared.Step.TheVariants.{Pass, Stop}
+use Rattle.answer.specs.Result.{Answer, Accepted, Refused, Pass, Stop}
 
 -- cents 100050; "5 with 28"; "4 at 17" of a second 60; "3 at 3"; a chain in which two steps fail; one in which none does
 abbrev examples : List Answer

@@ -1,3 +1,4 @@
 -- The definitions that the contracts of `answer` cite.
+pub mod Result
 pub mod Table
 pub mod Steps

@@ -1,10 +1,8 @@
 -- SCOPE, "Answer numbers": a rule is a row of steps, and "the first that fails answers".
-use Rattle.std.specs.Prelude.{ℕ, ◌+◌, ◌*◌, Bool, true, false}
+use Rattle.std.specs.Prelude.{ℕ, ◌+◌, ◌*◌, Bool, true, false, Err}
 use Rattle.answer.specs.declared.Reason.{Reason}
-use Rattle.answer.specs.declared.Answer.{Answer}
-use Rattle.answer.specs.declared.Answer.TheVariants.{Accepted, Refused}
-use Rattle.answer.specs.declared.Step.{Step}
-use Rattle.answer.specs.declared.Step.TheVariants.{Pass, Stop}
+use Rattle.answer.specs.Result.{Answer, Accepted, Refused}
+use Rattle.answer.specs.Result.{Step, Pass, Stop}
 
 -- the check number of a rule's step (docs/CHECKS.md): the kind times 100 and the step's position in the rule
 abbrev pub check : ℕ → ℕ → ℕ
@@ -19,10 +17,10 @@ must false r k = Stop r k
 infixl 6 ◌and_then◌
 unfoldable pub ◌and_then◌ : Step → Step → Step
 ◌and_then◌ Pass t = t
-◌and_then◌ (Stop r k) t = Stop r k
+◌and_then◌ (Err e) t = Err e
 
 -- the answer of a rule whose steps these were
 infixl 5 ◌or_accept◌
 unfoldable pub ◌or_accept◌ : Step → ℕ → Answer
 ◌or_accept◌ Pass n = Accepted n
-◌or_accept◌ (Stop r k) n = Refused r k
+◌or_accept◌ (Err e) n = Err e

@@ -1,5 +1,5 @@
 -- SCOPE, "Answer numbers": the number, the place and the value of each answer. "Where nothing else is said, place and number are 0."
-use Rattle.std.specs.Prelude.{ℕ}
+use Rattle.std.specs.Prelude.{ℕ, Err}
 use Rattle.answer.specs.declared.Numbers.{Numbers}
 use Rattle.answer.specs.declared.Reason.{Reason}
 use Rattle.answer.specs.declared.Reason.TheVariants.{
@@ -19,8 +19,7 @@ use Rattle.answer.specs.declared.Reason.TheVariants.{
   NoPlace,
   Unfit,
 }
-use Rattle.answer.specs.declared.Answer.{Answer}
-use Rattle.answer.specs.declared.Answer.TheVariants.{Accepted, Refused}
+use Rattle.answer.specs.Result.{Answer, Accepted, Refused}
 
 -- a row of the table: number, place and value
 abbrev pub row : ℕ → ℕ → ℕ → Numbers
@@ -46,7 +45,7 @@ row_of (Unfit p) = row 22 p 0  -- the new text would break a character step; pla
 -- an answer's three numbers: acceptance has number 0 and its own number as the value
 abbrev pub numbers_of : Answer → Numbers
 numbers_of (Accepted n) = row 0 0 n
-numbers_of (Refused r k) = row_of r
+numbers_of (Err e) = row_of e.reason
 
 abbrev pub number_of : Answer → ℕ
 number_of a = (numbers_of a).number
@@ -60,4 +59,4 @@ value_of a = (numbers_of a).value
 -- the check number of the step that refused, and 0 for acceptance
 abbrev pub check_of : Answer → ℕ
 check_of (Accepted n) = 0
-check_of (Refused r k) = k
+check_of (Err e) = e.check

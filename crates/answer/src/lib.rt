@@ -2,8 +2,8 @@
 #![tactic(auto)]
 
 ghost use Rattle.std.specs.Prelude.{◌≡◌};
-ghost use Rattle.answer.specs.Table.{row, row_of, numbers_of, number_of, place_of, value_of, check_of};
-ghost use Rattle.answer.specs.Steps.{◌and_then◌, ◌or_accept◌};
+ghost use Rattle.answer.specs.Table.{row, row_of, numbers_of, check_of};
+ghost use Rattle.answer.specs.Steps.{must};
 
 // One case for each refusal of SCOPE's answer table, with the place and the number that it can have, and nothing else.
 #[derive(Clone, Copy)]
@@ -25,18 +25,29 @@ pub enum Reason {
     Unfit { place: usize },
 }
 
-// A refusal carries the check number of its step (docs/CHECKS.md).
+// A refusal: why, and the check number of the step that gave it (docs/CHECKS.md).
 #[derive(Clone, Copy)]
-pub enum Answer {
-    Accepted(u64),
-    Refused(Reason, u32),
+pub struct Refusal {
+    pub reason: Reason,
+    pub check: u32,
 }
 
-// What one step of a rule says: go on, or stop with a reason and the step's check number.
-#[derive(Clone, Copy)]
-pub enum Step {
-    Pass,
-    Stop(Reason, u32),
+// What one step of a rule says: go on, or the refusal of the step. `?` hands the first refusal on.
+pub type Step = Result<(), Refusal>;
+
+// What a rule answers: acceptance with a number, or a refusal.
+pub type Answer = Result<u64, Refusal>;
+
+// A test that must hold; where it does not, the reason and the step's check number.
+#[inline]
+pub fn must(holds: bool, reason: Reason, check: u32) -> Step
+    ensures { result ≡ must holds reason check }
+{
+    if holds {
+        Ok(())
+    } else {
+        Err(Refusal { reason, check })
+    }
 }
 
 // The three numbers of an answer: SCOPE's number of it, the place to look at, and what belongs to it.
@@ -58,12 +69,12 @@ fn row(number: u8, place: usize, value: u64) -> Numbers
     }
 }
 
-impl Reason {
-    // The table, one row a reason.
-    pub fn numbers(self) -> Numbers
-        ensures { result ≡ row_of self }
-    {
-        match self {
+// The table, one row a reason.
+impl From<Reason> for Numbers {
+    ghost from_gives = { λ reason numbers. numbers ≡ row_of reason };
+
+    fn from(reason: Reason) -> Numbers {
+        match reason {
             Reason::NotUtf8 { place } => row(1, place, 0),
             Reason::Length { place, count } => row(2, place, count),
             Reason::Wrong { place } => row(3, place, 0),
@@ -83,67 +94,24 @@ impl Reason {
     }
 }
 
-impl Answer {
-    // Acceptance has number 0 and its own number as the value; a refusal has its reason's row.
-    pub fn numbers(self) -> Numbers
-        ensures { result ≡ numbers_of self }
-    {
-        match self {
-            Answer::Accepted(n) => row(0, 0, n),
-            Answer::Refused(reason, _) => reason.numbers(),
-        }
-    }
+// Acceptance has number 0 and its own number as the value; a refusal has its reason's row.
+impl From<Answer> for Numbers {
+    ghost from_gives = { λ answer numbers. numbers ≡ numbers_of answer };
 
-    pub fn number(self) -> u8
-        ensures { result ≡ number_of self }
-    {
-        let numbers = self.numbers();
-        numbers.number
-    }
-
-    pub fn place(self) -> usize
-        ensures { result ≡ place_of self }
-    {
-        let numbers = self.numbers();
-        numbers.place
-    }
-
-    pub fn value(self) -> u64
-        ensures { result ≡ value_of self }
-    {
-        let numbers = self.numbers();
-        numbers.value
-    }
-
-    // The check number of the step that refused (docs/CHECKS.md), and 0 for acceptance.
-    pub fn check(self) -> u32
-        ensures { result ≡ check_of self }
-    {
-        match self {
-            Answer::Accepted(_) => 0,
-            Answer::Refused(_, check) => check,
+    fn from(answer: Answer) -> Numbers {
+        match answer {
+            Ok(n) => row(0, 0, n),
+            Err(refusal) => Numbers::from(refusal.reason),
         }
     }
 }
 
-impl Step {
-    // The first of two steps that stops says why; where this one passes, the answer is the next one's.
-    pub fn then(self, next: Step) -> Step
-        ensures { result ≡ self and_then next }
-    {
-        match self {
-            Step::Pass => next,
-            Step::Stop(reason, check) => Step::Stop(reason, check),
-        }
-    }
-
-    // A rule's answer: accepted with n where all its steps passed, else the refusal of the step that stopped.
-    pub fn or_accept(self, n: u64) -> Answer
-        ensures { result ≡ self or_accept n }
-    {
-        match self {
-            Step::Pass => Answer::Accepted(n),
-            Step::Stop(reason, check) => Answer::Refused(reason, check),
-        }
+// The check number of the step that refused (docs/CHECKS.md), and 0 for acceptance.
+pub fn check_of(answer: Answer) -> u32
+    ensures { result ≡ check_of answer }
+{
+    match answer {
+        Ok(_) => 0,
+        Err(refusal) => refusal.check,
     }
 }

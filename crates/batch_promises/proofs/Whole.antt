@@ -5,7 +5,7 @@ use mathlib.Core.List.{List, ◌++◌}
 use native.Mathlib.Omega.{arith}
 use lib.ListN.{length}
 use Rattle.answer.specs.Table.{place_of, value_of}
-use Rattle.answer.specs.declared.Answer.{Answer}
+use Rattle.answer.specs.Result.{Answer}
 use Rattle.text.proofs.Near.{Small}
 use Rattle.field.specs.Field.{check_field}
 use Rattle.field.proofs.Places.{field_small}

@@ -4,7 +4,7 @@ use mathlib.Core.Path.{◌≡◌}
 use mathlib.Core.List.{List}
 use native.Mathlib.Omega.{arith}
 use lib.ListN.{length}
-use Rattle.answer.specs.declared.Answer.TheVariants.{Accepted}
+use Rattle.answer.specs.Result.{Accepted}
 use Rattle.answer.proofs.Laws.{accepted_pass}
 use Rattle.text.specs.declared.Set.TheVariants.{Capitals, CapitalsDigits}
 use Rattle.text.proofs.Low.{Low, low-none, low-then, low_first}

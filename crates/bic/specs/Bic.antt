@@ -2,9 +2,8 @@
 -- branch is named three characters more. SCOPE, kind 3, has letters only in the prefix, and all letters capital.
 use Rattle.std.specs.Prelude.{ℕ, List, eqb, length, ◌||◌}
 use Rattle.answer.specs.Steps.{check, must, ◌and_then◌, ◌or_accept◌}
-use Rattle.answer.specs.declared.Answer.{Answer}
+use Rattle.answer.specs.Result.{Answer, Step}
 use Rattle.answer.specs.declared.Reason.TheVariants.{Length}
-use Rattle.answer.specs.declared.Step.{Step}
 use Rattle.text.specs.Field.{first_wrong}
 use Rattle.text.specs.declared.Set.TheVariants.{Capitals, CapitalsDigits}
 

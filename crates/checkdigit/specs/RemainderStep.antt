@@ -2,7 +2,7 @@
 use Rattle.std.specs.Prelude.{ℕ, eqb}
 use Rattle.answer.specs.Steps.{must}
 use Rattle.answer.specs.declared.Reason.TheVariants.{Remainder}
-use Rattle.answer.specs.declared.Step.{Step}
+use Rattle.answer.specs.Result.{Step}
 
 -- k is the step's check number
 unfoldable pub remainder_step : ℕ → ℕ → Step

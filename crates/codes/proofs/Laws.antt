@@ -11,10 +11,9 @@ use lib.Dec.{T, eqb, ltb, eqb→eq, eqb_refl, lt→ltb, ltb→lt}
 use lib.ListN.{length, get_or, take, drop, drop_of_length-le}
 use lib.Seq.{drop-cons, take_all}
 use Rattle.answer.specs.Steps.{check, must, ◌or_accept◌}
-use Rattle.answer.specs.declared.Answer.TheVariants.{Accepted, Refused}
+use Rattle.answer.specs.Result.{Accepted, Refused, Pass, Stop}
 use Rattle.answer.specs.declared.Reason.{Reason}
 use Rattle.answer.specs.declared.Reason.TheVariants.{NotListed}
-use Rattle.answer.specs.declared.Step.TheVariants.{Pass, Stop}
 use Rattle.answer.proofs.Laws.{stops, passes, both_pass, accepted_pass}
 use Rattle.text.specs.Same.{same_text}
 use Rattle.text.specs.declared.Set.TheVariants.{Capitals}

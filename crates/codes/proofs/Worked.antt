@@ -3,7 +3,7 @@ use mathlib.Core.Path.{◌≡◌, refl}
 use mathlib.Core.List.{List, [], ◌∷◌, map}
 use Prim.Native.Nat.{ℕ}
 use Rattle.answer.specs.Steps.{◌and_then◌, ◌or_accept◌}
-use Rattle.answer.specs.declared.Answer.TheVariants.{Accepted, Refused}
+use Rattle.answer.specs.Result.{Accepted, Refused}
 use Rattle.answer.specs.declared.Reason.TheVariants.{Length, Wrong, NotListed, Missing}
 use Rattle.text.specs.Class.{class_of}
 use Rattle.text.specs.Field.{present, length_is, wrong_from, first_wrong}

@@ -3,9 +3,8 @@
 use Rattle.std.specs.Prelude.{ℕ, ◌+◌, ◌*◌, Bool, false, ◌||◌, cond, List, [], ◌∷◌, ◌++◌, eqb, length}
 use Prim.Native.String.{String}
 use Rattle.answer.specs.Steps.{check, must, ◌and_then◌, ◌or_accept◌}
-use Rattle.answer.specs.declared.Answer.{Answer}
+use Rattle.answer.specs.Result.{Answer, Step}
 use Rattle.answer.specs.declared.Reason.TheVariants.{NotListed}
-use Rattle.answer.specs.declared.Step.{Step}
 use Rattle.text.specs.Field.{length_is, present, first_wrong}
 use Rattle.text.specs.Quote.{bytes_of}
 use Rattle.text.specs.Same.{same_text}

@@ -7,8 +7,7 @@ use native.Mathlib.Omega.{arith}
 use borrow.Author.Tests.{ltb-true, ltb-false}
 use lib.Dec.{T, eqb, ltb, eqb→eq}
 use lib.ListN.{length, get_or}
-use Rattle.answer.specs.declared.Answer.TheVariants.{Accepted}
-use Rattle.answer.specs.declared.Step.TheVariants.{Pass}
+use Rattle.answer.specs.Result.{Accepted, Pass}
 use Rattle.answer.proofs.Laws.{both_pass, accepted_pass}
 use Rattle.text.specs.declared.Set.TheVariants.{Digits}
 use Rattle.text.proofs.Ranges.{both_parts}

@@ -7,7 +7,7 @@ use native.Mathlib.Omega.{arith}
 use lib.Dec.{eqb, ltb, ltb→lt}
 use lib.ListN.{length, get_or}
 use Rattle.answer.specs.declared.Reason.TheVariants.{TooLarge}
-use Rattle.answer.specs.declared.Step.TheVariants.{Pass}
+use Rattle.answer.specs.Result.{Pass}
 use Rattle.answer.proofs.Laws.{test_held, both_pass}
 use Rattle.text.proofs.Fields.{first-most}
 use Rattle.text.proofs.Near.{Near, Small, Short, small_accept, nears}

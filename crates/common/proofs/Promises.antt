@@ -13,8 +13,8 @@ use Rattle.answer.specs.Steps.{must, ◌and_then◌, ◌or_accept◌}
 use Rattle.answer.specs.Table.{check_of}
 use Rattle.answer.specs.declared.Reason.{Reason}
 use Rattle.answer.specs.declared.Reason.TheVariants.{Length, Wrong, Missing, TooLarge}
-use Rattle.answer.specs.declared.Step.{Step}
-use Rattle.answer.specs.declared.Step.TheVariants.{Pass, Stop}
+use Rattle.std.specs.Prelude.{Err}
+use Rattle.answer.specs.Result.{Step, Pass, Stop}
 use Rattle.answer.proofs.Laws.{test_held}
 use Rattle.text.specs.Class.{allowed}
 use Rattle.text.specs.Field.{dot, present, wrong_from, first_wrong}
@@ -49,7 +49,7 @@ module _ {n : ℕ} where
   never_then : (a b : Step) → Never n a → (a ≡ Pass → Never n b) → Never n (a and_then b)
   unfolding ◌and_then◌
   never_then Pass b p q = q refl
-  never_then (Stop r k) b p q = p
+  never_then (Err e) b p q = p
 
   never_wrong : (set : Set) (s : List ℕ) (at m k : ℕ) → k ≢ n → Never n (wrong_from set s at m k)
   unfolding wrong_from
@@ -60,7 +60,7 @@ module _ {n : ℕ} where
   never_answer : (a : Step) (m : ℕ) → 0 < n → Never n a → check_of (a or_accept m) ≢ n
   unfolding ◌or_accept◌
   never_answer Pass m h p = λ e. omega arith
-  never_answer (Stop r k) m h p = p.not r k refl
+  never_answer (Err e) m h p = p.not e.reason e.check refl
 
   module _ (s : List ℕ) where
     -- a whole number from one place up to another, by its three steps

@@ -9,11 +9,10 @@ use lib.Dec.{eqb, ltb}
 use lib.ListN.{length, get_or, take, drop, length-drop}
 use lib.Seq.{get_or-drop, take-take}
 use Rattle.answer.specs.Steps.{◌and_then◌, ◌or_accept◌}
-use Rattle.answer.specs.declared.Answer.TheVariants.{Refused}
+use Rattle.std.specs.Prelude.{Err}
+use Rattle.answer.specs.Result.{Refused, Step, Pass, Stop}
 use Rattle.answer.specs.declared.Reason.{Reason}
 use Rattle.answer.specs.declared.Reason.TheVariants.{Length, TooLarge}
-use Rattle.answer.specs.declared.Step.{Step}
-use Rattle.answer.specs.declared.Step.TheVariants.{Pass, Stop}
 use Rattle.text.specs.Class.{is_digit}
 use Rattle.text.specs.Decimal.{digit_of}
 use Rattle.text.specs.Field.{dot, first_wrong, wrong_from}
@@ -31,18 +30,18 @@ use Rattle.common.specs.declared.Parsed.TheVariants.{Is, Not}
 parsed-is : (t : Step) (n m : ℕ) → parsed t n ≡ Is m → (t ≡ Pass) × (m ≡ n)
 unfolding parsed
 parsed-is Pass n m e = (refl, cc)
-parsed-is (Stop r k) n m e = let z : ◌≡◌ {A = ℕ} 0 1 = cc in absurd (omega arith)
+parsed-is (Err x) n m e = let z : ◌≡◌ {A = ℕ} 0 1 = cc in absurd (omega arith)
 
 parsed_not : (t : Step) (n : ℕ) (r : Reason) (k : ℕ) → parsed t n ≡ Not r k → t ≡ Stop r k
 unfolding parsed
 parsed_not Pass n r k e = let z : ◌≡◌ {A = ℕ} 0 1 = cc in absurd (omega arith)
-parsed_not (Stop q j) n r k e = cc
+parsed_not (Err x) n r k e = cc
 
 -- what never passes has no number
 past-any : (t : Step) (r : Reason) (k n m : ℕ) → parsed (t and_then Stop r k) n ≡ parsed (t and_then Stop r k) m
 unfolding parsed ◌and_then◌
 past-any Pass r k n m = refl
-past-any (Stop q j) r k n m = refl
+past-any (Err e) r k n m = refl
 
 -- the digits of a part by what the search for a wrong byte says
 module _ (s : List ℕ) (at to k : ℕ) where

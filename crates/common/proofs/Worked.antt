@@ -3,7 +3,7 @@ use Prim.Native.Nat.{◌^◌, ◌-◌}
 use mathlib.Core.Path.{◌≡◌, refl}
 use mathlib.Core.List.{[], ◌∷◌, map}
 use Rattle.answer.specs.Steps.{◌and_then◌, ◌or_accept◌}
-use Rattle.answer.specs.declared.Answer.TheVariants.{Accepted, Refused}
+use Rattle.answer.specs.Result.{Accepted, Refused}
 use Rattle.answer.specs.declared.Reason.TheVariants.{Length, Wrong, Missing, TooLarge}
 use Rattle.text.specs.Class.{class_of}
 use Rattle.text.specs.Decimal.{decimal, number_written}

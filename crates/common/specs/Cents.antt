@@ -1,10 +1,8 @@
 -- SCOPE, "The ten kinds", 9 and 10: strict and lenient cents, defined there on whole numbers.
 use Rattle.std.specs.Prelude.{ℕ, ◌+◌, ◌-◌, ◌*◌, ◌^◌, List, eqb, ltb, length, get_or, take, drop, ◌&&◌, cond}
 use Rattle.answer.specs.Steps.{check, must, ◌and_then◌, ◌or_accept◌}
-use Rattle.answer.specs.declared.Answer.{Answer}
+use Rattle.answer.specs.Result.{Answer, Step, Pass}
 use Rattle.answer.specs.declared.Reason.TheVariants.{Length, TooLarge}
-use Rattle.answer.specs.declared.Step.{Step}
-use Rattle.answer.specs.declared.Step.TheVariants.{Pass}
 use Rattle.text.specs.Decimal.{number_written}
 use Rattle.text.specs.Field.{dot, present, first_wrong}
 use Rattle.text.specs.Ranges.{within}

@@ -4,7 +4,7 @@
 ghost use Rattle.std.specs.Prelude.{◌≡◌, ◌+◌, ◌*◌, ◌≤◌, length};
 ghost use Rattle.answer.specs.Steps.{◌and_then◌, ◌or_accept◌};
 ghost use Rattle.answer.specs.declared.Reason.{Reason};
-ghost use Rattle.answer.specs.declared.Step.{Step};
+ghost use Rattle.answer.specs.Result.{Step};
 ghost use Rattle.text.specs.Field.{first_place};
 ghost use Rattle.common.specs.Inner.{parsed};
 ghost use Rattle.common.specs.Cents.{

@@ -3,7 +3,7 @@ use Prim.Native.Nat.{ℕ}
 use mathlib.Core.Path.{◌≡◌}
 use mathlib.Core.List.{List}
 use lib.ListN.{length}
-use Rattle.answer.specs.declared.Answer.TheVariants.{Accepted}
+use Rattle.answer.specs.Result.{Accepted}
 use Rattle.text.proofs.Low.{Low}
 use Rattle.codes.proofs.Laws.{code-low}
 use Rattle.country.specs.Country.{countries, country_answer}

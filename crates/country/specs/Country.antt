@@ -1,6 +1,6 @@
 -- SCOPE, kind 7: the 250 codes of `country.rs`, line by line and in its order, and the rule over them.
 use Rattle.std.specs.Prelude.{ℕ, List, [], ◌∷◌}
-use Rattle.answer.specs.declared.Answer.{Answer}
+use Rattle.answer.specs.Result.{Answer}
 use Rattle.codes.specs.Codes.{codes_of, code_rule}
 
 unfoldable pub countries : List (List ℕ)

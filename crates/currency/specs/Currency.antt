@@ -1,6 +1,6 @@
 -- SCOPE, kind 8: the 183 codes of `currency.rs`, line by line and in its order, and the rule over them.
 use Rattle.std.specs.Prelude.{ℕ, List, [], ◌∷◌}
-use Rattle.answer.specs.declared.Answer.{Answer}
+use Rattle.answer.specs.Result.{Answer}
 use Rattle.codes.specs.Codes.{codes_of, code_rule}
 
 unfoldable pub currencies : List (List ℕ)

@@ -10,9 +10,8 @@ use lib.Dec.{T, eqb, leb, eqb→eq, leb→le}
 use lib.ListN.{length, get_or, drop}
 use lib.Seq.{get_or-drop}
 use Rattle.answer.specs.Steps.{check}
-use Rattle.answer.specs.declared.Answer.TheVariants.{Accepted}
+use Rattle.answer.specs.Result.{Accepted, Pass}
 use Rattle.answer.specs.declared.Reason.TheVariants.{Wrong, Trailing}
-use Rattle.answer.specs.declared.Step.TheVariants.{Pass}
 use Rattle.answer.proofs.Laws.{test_held, accepted_pass, both_pass}
 use Rattle.text.proofs.Ranges.{either_parts}
 use Rattle.text.proofs.Classes.{digit_ends}

@@ -7,7 +7,7 @@ use lib.Dec.{ltb, ltb→lt}
 use lib.ListN.{length}
 use Rattle.answer.specs.Steps.{check, must}
 use Rattle.answer.specs.declared.Reason.TheVariants.{Missing}
-use Rattle.answer.specs.declared.Step.TheVariants.{Pass}
+use Rattle.answer.specs.Result.{Pass}
 use Rattle.answer.proofs.Laws.{test_held, both_pass}
 use Rattle.text.proofs.Near.{Near, Small, Short, near_after, nears}
 use Rattle.datetime.specs.Date.{date_part, date_answer}

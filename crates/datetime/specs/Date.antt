@@ -2,8 +2,7 @@
 -- calendar: each month may have the days 01 to 31.
 use Rattle.std.specs.Prelude.{ℕ, List}
 use Rattle.answer.specs.Steps.{check, ◌and_then◌, ◌or_accept◌}
-use Rattle.answer.specs.declared.Answer.{Answer}
-use Rattle.answer.specs.declared.Step.{Step}
+use Rattle.answer.specs.Result.{Answer, Step}
 use Rattle.text.specs.Field.{length_is, literal_at, two_digits, four_digits}
 
 abbrev hyphen : ℕ

@@ -2,10 +2,8 @@
 -- and `Z` (4.2.4) or the difference to UTC (4.2.5.1). SCOPE, kind 5, asks for the zone, and has no hour 24 and no second 60.
 use Rattle.std.specs.Prelude.{ℕ, suc, ◌+◌, Bool, ◌||◌, cond, List, [], ◌∷◌, eqb, leb, ltb, length, get_or, drop}
 use Rattle.answer.specs.Steps.{check, must, ◌and_then◌, ◌or_accept◌}
-use Rattle.answer.specs.declared.Answer.{Answer}
+use Rattle.answer.specs.Result.{Answer, Step, Pass}
 use Rattle.answer.specs.declared.Reason.TheVariants.{Length, Wrong, Missing, Trailing}
-use Rattle.answer.specs.declared.Step.{Step}
-use Rattle.answer.specs.declared.Step.TheVariants.{Pass}
 use Rattle.text.specs.Class.{is_digit}
 use Rattle.text.specs.Field.{literal_at, two_digits}
 use Rattle.datetime.specs.Date.{date_part}

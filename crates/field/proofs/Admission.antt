@@ -8,8 +8,7 @@ use lib.Dec.{T, leb, eqb}
 use lib.ListN.{length}
 use Rattle.answer.specs.Steps.{must, ◌and_then◌}
 use Rattle.answer.specs.declared.Reason.TheVariants.{NotUtf8, TooLong, UnknownKind}
-use Rattle.answer.specs.declared.Step.{Step}
-use Rattle.answer.specs.declared.Step.TheVariants.{Pass, Stop}
+use Rattle.answer.specs.Result.{Step, Pass, Stop}
 use Rattle.text.proofs.Ranges.{is_true}
 use Rattle.utf8.specs.Chars.{valid_prefix}
 use Rattle.field.specs.Field.{field_limit, known, exempt, unknown_step, admission}

@@ -7,10 +7,9 @@ use native.Mathlib.Omega.{arith}
 use lib.Dec.{leb, leb→le}
 use lib.ListN.{length}
 use Rattle.answer.specs.Steps.{must}
-use Rattle.answer.specs.declared.Answer.{Answer}
+use Rattle.std.specs.Prelude.{Err}
+use Rattle.answer.specs.Result.{Answer, Step, Pass, Stop}
 use Rattle.answer.specs.declared.Reason.TheVariants.{TooLong}
-use Rattle.answer.specs.declared.Step.{Step}
-use Rattle.answer.specs.declared.Step.TheVariants.{Pass, Stop}
 use Rattle.answer.proofs.Laws.{both_pass, test_held}
 use Rattle.text.proofs.Near.{Small, Near, Short, near_at, near_after, nears}
 use Rattle.utf8.specs.Chars.{valid_prefix}
@@ -31,7 +30,7 @@ pick_small false a b p q = q
 
 answered_small : (a : Step) (b : Answer) → Near a → (a ≡ Pass → Small b) → Small (answered a b)
 answered_small Pass b p q = q refl
-answered_small (Stop r k) b p q = p.small r k refl
+answered_small (Err e) b p q = p.small e.reason e.check refl
 
 module _ (kind : ℕ) (s : List ℕ) (f : kind < 2 ^ 64) where
   rule_small : Short s → Small (rule_of kind s)

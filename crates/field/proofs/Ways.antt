@@ -10,12 +10,10 @@ use borrow.Author.Tests.{eq-eqb, ne_eqb}
 use lib.ListN.{length}
 use types.Run.{OneOf}
 use Rattle.answer.specs.Steps.{◌and_then◌, ◌or_accept◌}
-use Rattle.answer.specs.declared.Answer.{Answer}
-use Rattle.answer.specs.declared.Answer.TheVariants.{Accepted, Refused}
+use Rattle.std.specs.Prelude.{Err}
+use Rattle.answer.specs.Result.{Answer, Accepted, Refused, Step, Pass, Stop}
 use Rattle.answer.specs.declared.Reason.{Reason}
 use Rattle.answer.specs.declared.Reason.TheVariants.{UnknownKind}
-use Rattle.answer.specs.declared.Step.{Step}
-use Rattle.answer.specs.declared.Step.TheVariants.{Pass, Stop}
 use Rattle.text.proofs.Low.{Low}
 use Rattle.text.specs.Ranges.{within}
 use Rattle.text.proofs.Ranges.{within_yes, within-ends, of_keys}
@@ -104,19 +102,19 @@ ruled n s m other e = go (within 2 10 n) refl
 -- a rule's answer, where a step is asked after a refusal
 abbrev pub late : Step → Answer → Answer
 late a (Accepted m) = Accepted m
-late a (Refused r k) = a and_then Stop r k or_accept 0
+late a (Err e) = a and_then Stop e.reason e.check or_accept 0
 
 late_pass : (x : Answer) → late Pass x ≡ x
 unfolding ◌and_then◌ ◌or_accept◌
 late_pass (Accepted m) = refl
-late_pass (Refused r k) = refl
+late_pass (Err e) = refl
 
 late_step : (a u : Step) (x : Answer) → ((m : ℕ) → x ≡ Accepted m → u ≡ Pass) → answered a (late u x) ≡ answered (a and_then u) x
 unfolding ◌and_then◌ ◌or_accept◌
-late_step (Stop r k) u x h = refl
+late_step (Err e) u x h = refl
 late_step Pass u (Accepted m) h = rw (h m refl)
-late_step Pass Pass (Refused r k) h = refl
-late_step Pass (Stop q j) (Refused r k) h = refl
+late_step Pass Pass (Err e) h = refl
+late_step Pass (Err e) (Err x) h = refl
 
 -- each way that suits a kind gives its answers
 pub any_order : (w : Way) (n : ℕ) (s : List ℕ) → Suits w n → answered (before_rule w s) (late (after_rule w s) (rule_of n s)) ≡ check_field n s

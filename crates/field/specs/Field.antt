@@ -1,11 +1,8 @@
 -- SCOPE, "Answer numbers" and "The ten kinds": "Order for a field: 12, 11, 1, then the rule's steps. The first that fails answers."
-use Rattle.std.specs.Prelude.{ℕ, List, [], ◌∷◌, eqb, leb, length, Bool, true, false, ◌||◌, cond}
+use Rattle.std.specs.Prelude.{ℕ, List, [], ◌∷◌, eqb, leb, length, Bool, true, false, ◌||◌, cond, Err}
 use Rattle.answer.specs.Steps.{must, ◌and_then◌, ◌or_accept◌}
-use Rattle.answer.specs.declared.Answer.{Answer}
-use Rattle.answer.specs.declared.Answer.TheVariants.{Refused}
+use Rattle.answer.specs.Result.{Answer, Refused, Step, Pass, Stop}
 use Rattle.answer.specs.declared.Reason.TheVariants.{NotUtf8, TooLong, UnknownKind}
-use Rattle.answer.specs.declared.Step.{Step}
-use Rattle.answer.specs.declared.Step.TheVariants.{Pass, Stop}
 use Rattle.utf8.specs.Chars.{valid_prefix}
 use Rattle.iban.specs.Iban.{iban_answer}
 use Rattle.lei.specs.Lei.{lei_answer}
@@ -80,7 +77,7 @@ rule_of n s = line_in kinds (unknown_step n or_accept 0) (λ k. k.rule s) n
 -- the answer of the rule where the field is admitted
 abbrev pub answered : Step → Answer → Answer
 answered Pass a = a
-answered (Stop r k) a = Refused r k
+answered (Err e) a = Refused e.reason e.check
 
 unfoldable pub check_field : ℕ → List ℕ → Answer
 check_field n s = answered (admission n s) (rule_of n s)

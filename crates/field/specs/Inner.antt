@@ -1,10 +1,8 @@
 -- Definitions that only inner functions of `field` cite: a reader of the promises can pass over them.
 use Rattle.std.specs.Prelude.{ℕ, ◌≡◌, true, List, eqb, length}
 use Rattle.answer.specs.Steps.{must, ◌and_then◌}
-use Rattle.answer.specs.declared.Answer.TheVariants.{Accepted}
+use Rattle.answer.specs.Result.{Accepted, Step, Pass}
 use Rattle.answer.specs.declared.Reason.TheVariants.{NotUtf8}
-use Rattle.answer.specs.declared.Step.{Step}
-use Rattle.answer.specs.declared.Step.TheVariants.{Pass}
 use Rattle.utf8.specs.Chars.{valid_prefix, ascii}
 use Rattle.field.specs.Field.{limit_step, admission, rule_of, check_field}
 use Rattle.field.specs.declared.Way.{Way}

@@ -8,7 +8,7 @@ use borrow.Author.Tests.{lt-ltb, le-ltb, eq-eqb, ne_eqb}
 use lib.ListN.{length, drop, set, length-append}
 use Rattle.answer.specs.Steps.{◌and_then◌}
 use Rattle.answer.specs.declared.Reason.TheVariants.{Wrong}
-use Rattle.answer.specs.declared.Step.TheVariants.{Pass, Stop}
+use Rattle.answer.specs.Result.{Pass, Stop}
 use Rattle.utf8.specs.Chars.{chars, widths, valid_prefix}
 use Rattle.utf8.specs.Space.{white_space}
 use Rattle.utf8.proofs.Chars.{Stands}

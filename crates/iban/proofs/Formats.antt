@@ -5,11 +5,10 @@ use mathlib.Core.List.{List, []}
 use native.Mathlib.Omega.{arith}
 use lib.ListN.{length, take}
 use Rattle.answer.specs.Steps.{◌and_then◌, ◌or_accept◌}
-use Rattle.answer.specs.declared.Answer.TheVariants.{Refused}
+use Rattle.std.specs.Prelude.{Err}
+use Rattle.answer.specs.Result.{Refused, Step, Pass, Stop}
 use Rattle.answer.specs.declared.Reason.{Reason}
 use Rattle.answer.specs.declared.Reason.TheVariants.{Length}
-use Rattle.answer.specs.declared.Step.{Step}
-use Rattle.answer.specs.declared.Step.TheVariants.{Pass, Stop}
 use Rattle.answer.proofs.Laws.{both_pass, test_held}
 use Rattle.text.specs.Ranges.{within}
 use Rattle.text.proofs.Ranges.{within-ends}
@@ -64,7 +63,7 @@ module _ (s : List ℕ) (h : Electronic) (o : Dropped s h) where
       go : (x : Step) → h.step ≡ x → x and_then count_step h.count ≡ Stop r k
           → (ascii_step s and_then count_step (length (electronic s))) and_then step_in (electronic s) (class_steps (electronic_text s)) ≡ Stop r k
       go Pass q f = rw (sym o.ascii ∙ q, ← (o.holds q).1, f)
-      go (Stop r' k') q f = rw (sym o.ascii ∙ q) f
+      go (Err e) q f = rw (sym o.ascii ∙ q) f
 
   module _ (w : Whole) (x : Step) (are : x ≡ class_steps (take (h.count - 0) h.text)) where
     by_class : iban_characters s ≡ step_in (electronic s) x
@@ -82,12 +81,12 @@ module _ (s : List ℕ) (h : Electronic) (o : Dropped s h) where
 by_steps : (x : Step) (t : List ℕ) → (x ≡ Pass → length t ≤ 34) → ((format_by x t).count ≤ 34) × (length (format_by x t).text ≡ 34)
 unfolding format_by
 by_steps Pass t f = (f refl, length-padded 34 t)
-by_steps (Stop r k) t f = (omega arith, length-padded 34 [])
+by_steps (Err e) t f = (omega arith, length-padded 34 [])
 
 -- where the steps pass, the text passed each of them
 step_passed : (l : List Character) (x : Step) → step_in l x ≡ Pass → x ≡ Pass
 step_passed l Pass e = refl
-step_passed l (Stop r k) e = let z : ◌≡◌ {A = ℕ} 0 1 = cc in absurd (omega arith)
+step_passed l (Err x) e = let z : ◌≡◌ {A = ℕ} 0 1 = cc in absurd (omega arith)
 
 pub record Passed (t : List ℕ) : Type 0 where
   pub low : 5 ≤ length t
@@ -105,7 +104,7 @@ passed s e =
 pub format_step : (x : Step) (t : List ℕ) → (format_by x t).step ≡ x
 unfolding format_by
 format_step Pass t = refl
-format_step (Stop r k) t = refl
+format_step (Err e) t = refl
 
 -- the answer from the format
 module _ (s : List ℕ) (h : Electronic) (o : h ≡ format_of s) where

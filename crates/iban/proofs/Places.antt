@@ -7,11 +7,10 @@ use native.Mathlib.Omega.{arith}
 use lib.Dec.{eqb, ltb}
 use lib.ListN.{length}
 use Rattle.answer.specs.Table.{row_of}
-use Rattle.answer.specs.declared.Answer.TheVariants.{Refused}
+use Rattle.std.specs.Prelude.{Err}
+use Rattle.answer.specs.Result.{Refused, Step, Pass, Stop}
 use Rattle.answer.specs.declared.Reason.{Reason}
 use Rattle.answer.specs.declared.Reason.TheVariants.{Wrong}
-use Rattle.answer.specs.declared.Step.{Step}
-use Rattle.answer.specs.declared.Step.TheVariants.{Pass, Stop}
 use Rattle.text.proofs.Near.{Near, Small, Short, near_pass, near_at, near_must, near_then, nears}
 use Rattle.utf8.specs.Chars.{Ch, then, chars_past, chars, widths, valid_prefix}
 use Rattle.utf8.specs.Rfc3629.{front}
@@ -75,7 +74,7 @@ reason_near l r k h o = go (eqb (row_of r).number 3)
 
 step_near : (l : List Character) (x : Step) → Placed l → Near x → Near (step_in l x)
 step_near l Pass h o = near_pass
-step_near l (Stop r k) h o =
+step_near l (Err e) h o =
     let m = reason_near l r k h (o.small r k refl) in
     near_at (reason_in l r) k m.place m.value
 

@@ -1,13 +1,11 @@
 -- SCOPE, kind 1, and ISO 13616: the steps on the characters in electronic format, and then the remainder of MOD 97-10 with the first four
 -- characters moved to the end.
-use Rattle.std.specs.Prelude.{ℕ, cond, List, [], ◌∷◌, ltb, eqb, length}
+use Rattle.std.specs.Prelude.{ℕ, cond, List, [], ◌∷◌, ltb, eqb, length, Err}
 use Rattle.answer.specs.Steps.{check, must, ◌and_then◌, ◌or_accept◌}
 use Rattle.answer.specs.Table.{row_of}
-use Rattle.answer.specs.declared.Answer.{Answer}
+use Rattle.answer.specs.Result.{Answer, Step, Pass, Stop}
 use Rattle.answer.specs.declared.Reason.{Reason}
 use Rattle.answer.specs.declared.Reason.TheVariants.{Length, Wrong}
-use Rattle.answer.specs.declared.Step.{Step}
-use Rattle.answer.specs.declared.Step.TheVariants.{Pass, Stop}
 use Rattle.text.specs.Ranges.{within}
 use Rattle.text.specs.Field.{first_wrong}
 use Rattle.text.specs.declared.Set.TheVariants.{Digits, Capitals, LettersDigits}
@@ -42,7 +40,7 @@ reason_in l r = cond (eqb (row_of r).number 3) (Wrong (place_in (row_of r).place
 
 abbrev pub step_in : List Character → Step → Step
 step_in l Pass = Pass
-step_in l (Stop r k) = Stop (reason_in l r) k
+step_in l (Err e) = Stop (reason_in l e.reason) e.check
 
 -- every step but the remainder
 unfoldable pub iban_characters : List ℕ → Step

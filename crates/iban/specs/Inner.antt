@@ -1,6 +1,6 @@
 -- Definitions that only inner functions of `iban` cite: a reader of the promises can pass over them.
 use Rattle.std.specs.Prelude.{ℕ, ◌≡◌, List, length}
-use Rattle.answer.specs.declared.Step.TheVariants.{Pass}
+use Rattle.answer.specs.Result.{Pass}
 use Rattle.iban.specs.Electronic.{electronic, electronic_text}
 use Rattle.iban.specs.Iban.{ascii_step}
 use Rattle.iban.specs.Format.{padded}

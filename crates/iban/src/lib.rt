@@ -3,7 +3,7 @@
 
 ghost use Rattle.std.specs.Prelude.{◌≡◌, true, [], set};
 ghost use Rattle.answer.specs.declared.Reason.{Reason};
-ghost use Rattle.answer.specs.declared.Step.{Step};
+ghost use Rattle.answer.specs.Result.{Step};
 ghost use Rattle.utf8.specs.Chars.{ascii};
 ghost use Rattle.iban.specs.Electronic.{electronic, place_in};
 ghost use Rattle.iban.specs.Iban.{count_step, class_steps, reason_in, iban_answer};

@@ -2,8 +2,7 @@
 -- over the text as it stands.
 use Rattle.std.specs.Prelude.{ℕ, List}
 use Rattle.answer.specs.Steps.{check, ◌and_then◌, ◌or_accept◌}
-use Rattle.answer.specs.declared.Answer.{Answer}
-use Rattle.answer.specs.declared.Step.{Step}
+use Rattle.answer.specs.Result.{Answer, Step}
 use Rattle.text.specs.Field.{length_is, first_wrong}
 use Rattle.text.specs.declared.Set.TheVariants.{Digits, CapitalsDigits}
 use Rattle.checkdigit.specs.Sum.{remainder_of}

@@ -10,8 +10,8 @@ use lib.Seq.{get_or-take}
 use Rattle.answer.specs.Steps.{◌and_then◌}
 use Rattle.answer.specs.declared.Reason.{Reason}
 use Rattle.answer.specs.declared.Reason.TheVariants.{NoSheet, NoPlace, Unfit}
-use Rattle.answer.specs.declared.Step.{Step}
-use Rattle.answer.specs.declared.Step.TheVariants.{Pass, Stop}
+use Rattle.std.specs.Prelude.{Err}
+use Rattle.answer.specs.Result.{Step, Pass, Stop}
 use Rattle.answer.proofs.Laws.{passes, stops, both_pass, test_held}
 use Rattle.text.specs.Class.{allowed}
 use Rattle.text.specs.declared.Set.TheVariants.{LettersDigits}
@@ -50,7 +50,7 @@ byte_passed p b e = test_held (allowed LettersDigits b) (Unfit p) 22 e
 
 unfit-passed : (x : Step) → unfit x ≡ Pass → x ≡ Pass
 unfit-passed Pass e = refl
-unfit-passed (Stop r k) e = let z : ◌≡◌ {A = ℕ} 0 1 = cc in absurd (omega arith)
+unfit-passed (Err x) e = let z : ◌≡◌ {A = ℕ} 0 1 = cc in absurd (omega arith)
 
 text-passed : (kind : ℕ) (t : List ℕ) → text_step kind t ≡ Pass → characters kind t ≡ Pass
 unfolding text_step
@@ -148,7 +148,7 @@ module _ (s : Sheet) (q : Request) where
       go Pass e o g =
           load_fit s.kind (asked s.kind (held s) q) s
           (record { known = o.fit.known; plain = asked_plain s.kind (held s) q o.fit g; passes = text-passed s.kind (asked s.kind (held s) q) e })
-      go (Stop r k) e o g = refl
+      go (Err x) e o g = refl
 
   pub repair_stops : (r : Reason) (k : ℕ) → first_steps s q ≡ Stop r k → refusal s r k ≡ repair_of s q
   unfolding repair_of request_steps repair_by ◌and_then◌
@@ -157,4 +157,4 @@ module _ (s : Sheet) (q : Request) where
       go : (x : Step) → sheet_step s ≡ x → x and_then given_steps s.length q ≡ Stop r k
           → x and_then (given_steps (length (held s)) q and_then text_step s.kind (asked s.kind (held s) q)) ≡ Stop r k
       go Pass f g = stops {a = given_steps (length (held s)) q} r k (text_step s.kind (asked s.kind (held s) q)) (rw (← stood_size s (sheet-passed s f)) g)
-      go (Stop r' k') f g = g
+      go (Err e) f g = g

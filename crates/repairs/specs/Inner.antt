@@ -1,8 +1,7 @@
 -- Definitions that only inner functions of `repairs` cite: a reader of the promises can pass over them.
-use Rattle.std.specs.Prelude.{ℕ, List, take, set}
+use Rattle.std.specs.Prelude.{ℕ, List, take, set, Err}
 use Rattle.answer.specs.Steps.{◌and_then◌}
-use Rattle.answer.specs.declared.Step.{Step}
-use Rattle.answer.specs.declared.Step.TheVariants.{Pass, Stop}
+use Rattle.answer.specs.Result.{Step, Pass, Stop}
 use Rattle.checkdigit.specs.Sum.{exchanged}
 use Rattle.checkdigit.specs.Fill.{check_digits, stamped}
 use Rattle.sheet.specs.Sheets.{remainder_by, digits_place}
@@ -31,4 +30,4 @@ first_steps s q = sheet_step s and_then given_steps s.length q
 -- the repair to a new text, after the step on that text: a load of it
 unfoldable pub renewed_by : Step → Sheet → List ℕ → Repaired
 renewed_by Pass s t = load_of s.kind t s
-renewed_by (Stop r k) s t = refusal s r k
+renewed_by (Err e) s t = refusal s e.reason e.check

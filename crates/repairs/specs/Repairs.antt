@@ -1,11 +1,10 @@
 -- SCOPE, "The repair sheet": what replace, exchange and fill make of the held text, and their refusals 20, 21 and 22 in this order.
 -- "Otherwise the repair is done and answers as a fresh check of the new text."
-use Rattle.std.specs.Prelude.{ℕ, List, ltb, length, set}
+use Rattle.std.specs.Prelude.{ℕ, List, ltb, length, set, Err}
 use Rattle.answer.specs.Steps.{must, ◌and_then◌}
 use Rattle.answer.specs.Table.{row_of}
 use Rattle.answer.specs.declared.Reason.TheVariants.{NoSheet, NoPlace, Unfit}
-use Rattle.answer.specs.declared.Step.{Step}
-use Rattle.answer.specs.declared.Step.TheVariants.{Pass, Stop}
+use Rattle.answer.specs.Result.{Step, Pass, Stop}
 use Rattle.text.specs.Class.{allowed}
 use Rattle.text.specs.declared.Set.TheVariants.{LettersDigits}
 use Rattle.checkdigit.specs.Sum.{exchanged}
@@ -39,7 +38,7 @@ byte_step place byte = must (allowed LettersDigits byte) (Unfit place) 22
 -- 22: the new text would break a character step, at the first character that breaks it
 abbrev pub unfit : Step → Step
 unfit Pass = Pass
-unfit (Stop r k) = Stop (Unfit (row_of r).place) 23
+unfit (Err e) = Stop (Unfit (row_of e.reason).place) 23
 
 unfoldable pub text_step : ℕ → List ℕ → Step
 text_step kind t = unfit (characters kind t)
@@ -61,7 +60,7 @@ sheet_step s = must (standing s) NoSheet 20
 -- the repair of a sheet to a new text, where the steps pass
 unfoldable pub repair_by : Step → Sheet → List ℕ → Repaired
 repair_by Pass s t = record { answer = check_field s.kind t; sheet = sheet_of s.kind t }
-repair_by (Stop r k) s t = refusal s r k
+repair_by (Err e) s t = refusal s e.reason e.check
 
 unfoldable pub repair_of : Sheet → Request → Repaired
 repair_of s r = repair_by (sheet_step s and_then request_steps s.kind (held s) r) s (asked s.kind (held s) r)

@@ -9,7 +9,7 @@ use lib.Dec.{T}
 use lib.ListN.{length, get_or}
 use lib.Seq.{take-length}
 use Rattle.answer.specs.declared.Reason.{Reason}
-use Rattle.answer.specs.declared.Step.TheVariants.{Pass, Stop}
+use Rattle.answer.specs.Result.{Pass, Stop}
 use Rattle.text.specs.Class.{allowed, is_digit}
 use Rattle.text.specs.Decimal.{number_written, fitted}
 use Rattle.text.specs.Field.{wrong_from, first_wrong}

@@ -7,7 +7,7 @@ use native.Mathlib.Omega.{arith}
 use lib.Dec.{T}
 use lib.ListN.{length, get_or, get_or-append}
 use Rattle.answer.specs.Table as answer
-use Rattle.answer.specs.declared.Answer.{Answer}
+use Rattle.answer.specs.Result.{Answer}
 use Rattle.text.specs.Class.{is_digit}
 use Rattle.text.specs.Decimal.{decimal, number_written}
 use Rattle.text.proofs.Classes.{is_digit_lem}

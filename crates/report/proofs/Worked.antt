@@ -2,7 +2,7 @@
 use Prim.Native.Nat.{ℕ, zero, suc, ◌-◌, ◌^◌}
 use mathlib.Core.Path.{◌≡◌, refl}
 use mathlib.Core.List.{List, [], ◌∷◌, ◌++◌, map}
-use Rattle.answer.specs.declared.Answer.TheVariants.{Accepted}
+use Rattle.answer.specs.Result.{Accepted}
 use Rattle.text.specs.Class.{class_of}
 use Rattle.text.specs.Decimal.{decimal, number_written, fitted}
 use Rattle.text.specs.Quote.{bytes_of}

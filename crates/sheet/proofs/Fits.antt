@@ -13,8 +13,7 @@ use lib.Seq.{get_or-set_same, get_or-set_other}
 use Rattle.answer.specs.Steps.{must, ◌and_then◌}
 use Rattle.answer.specs.declared.Reason.{Reason}
 use Rattle.answer.specs.declared.Reason.TheVariants.{Wrong}
-use Rattle.answer.specs.declared.Step.{Step}
-use Rattle.answer.specs.declared.Step.TheVariants.{Pass}
+use Rattle.answer.specs.Result.{Step, Pass}
 use Rattle.answer.proofs.Laws.{passes, both_pass}
 use Rattle.text.specs.Class.{class_of, holds, allowed, is_digit}
 use Rattle.text.specs.Field.{length_is, wrong_from, first_wrong}

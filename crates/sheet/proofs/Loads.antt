@@ -10,12 +10,10 @@ use lib.ListN.{length, take, get_or}
 use lib.Seq.{take_all}
 use Rattle.answer.specs.Steps.{must, ◌and_then◌, ◌or_accept◌}
 use Rattle.answer.specs.Table.{row_of}
-use Rattle.answer.specs.declared.Answer.{Answer}
-use Rattle.answer.specs.declared.Answer.TheVariants.{Refused}
+use Rattle.std.specs.Prelude.{Err}
+use Rattle.answer.specs.Result.{Answer, Refused, Step, Pass, Stop}
 use Rattle.answer.specs.declared.Reason.{Reason}
 use Rattle.answer.specs.declared.Reason.TheVariants.{Length, Wrong, Remainder, UnknownKind}
-use Rattle.answer.specs.declared.Step.{Step}
-use Rattle.answer.specs.declared.Step.TheVariants.{Pass, Stop}
 use Rattle.text.specs.Class.{allowed}
 use Rattle.text.specs.Field.{length_is, wrong_from, first_wrong}
 use Rattle.text.specs.declared.Set.{Set}
@@ -56,7 +54,7 @@ quiet_must false r k q = quiet_at r k q
 quiet_then : (a b : Step) → Quiet a → Quiet b → Quiet (a and_then b)
 unfolding ◌and_then◌
 quiet_then Pass b p q = q
-quiet_then (Stop r k) b p q = p
+quiet_then (Err e) b p q = p
 
 quiet_wrong : (set : Set) (s : List ℕ) (i n k : ℕ) → Quiet (wrong_from set s i n k)
 unfolding wrong_from summed
@@ -79,7 +77,7 @@ quiet_ascii (c ∷ l) = quiet_then _ _ (quiet_must (ltb c.scalar 128) (Wrong c.p
 quiet_in : (l : List Character) (x : Step) → Quiet x → Quiet (step_in l x)
 unfolding reason_in summed
 quiet_in l Pass q = quiet_pass
-quiet_in l (Stop r k) q = go (eqb (row_of r).number 3)
+quiet_in l (Err e) q = go (eqb (row_of e.reason).number 3)
   where
     go : (b : Bool) → Quiet (Stop (cond b (Wrong (place_in (row_of r).place l)) r) k)
     go true = quiet_at (Wrong (place_in (row_of r).place l)) k refl
@@ -150,8 +148,8 @@ summed_passes kind s t e =
   where
     go : (x y : Step) → Quiet x → Quiet y → summed (answered x (y and_then last_step kind (held_text kind s) or_accept 1)) ≡ true → (x ≡ Pass) × (y ≡ Pass)
     go Pass Pass p q e = (refl, refl)
-    go Pass (Stop r k) p q e = let z : ◌≡◌ {A = ℕ} 0 1 = cc (q.silent r k refl) in absurd (omega arith)
-    go (Stop r k) y p q e = let z : ◌≡◌ {A = ℕ} 0 1 = cc (p.silent r k refl) in absurd (omega arith)
+    go Pass (Err x) p q e = let z : ◌≡◌ {A = ℕ} 0 1 = cc (q.silent x.reason x.check refl) in absurd (omega arith)
+    go (Err x) y p q e = let z : ◌≡◌ {A = ℕ} 0 1 = cc (p.silent x.reason x.check refl) in absurd (omega arith)
 
 -- a text that fits is admitted, and a fresh check of it answers by its remainder
 module _ (kind : ℕ) (t : List ℕ) (f : Fit kind t) where

@@ -9,7 +9,7 @@ use lib.Dec.{T, eqb}
 use lib.ListN.{length, get_or, set, length-set}
 use lib.Seq.{get_or-set_same, get_or-set_other}
 use Rattle.answer.specs.Steps.{◌and_then◌}
-use Rattle.answer.specs.declared.Step.TheVariants.{Pass}
+use Rattle.answer.specs.Result.{Pass}
 use Rattle.text.specs.Class.{allowed}
 use Rattle.text.specs.declared.Set.TheVariants.{LettersDigits}
 use Rattle.text.proofs.Classes.{allowed-ends}

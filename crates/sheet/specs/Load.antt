@@ -2,8 +2,7 @@
 -- check does, and otherwise the check's refusal with the old sheet returned; any other kind is 12."
 use Rattle.std.specs.Prelude.{ℕ, Bool, false, ◌||◌, cond, List, eqb}
 use Rattle.answer.specs.Table.{number_of}
-use Rattle.answer.specs.declared.Answer.{Answer}
-use Rattle.answer.specs.declared.Answer.TheVariants.{Refused}
+use Rattle.answer.specs.Result.{Answer, Refused}
 use Rattle.answer.specs.declared.Reason.{Reason}
 use Rattle.answer.specs.declared.Reason.TheVariants.{UnknownKind}
 use Rattle.field.specs.Field.{check_field}

@@ -1,7 +1,7 @@
 -- SCOPE, "The repair sheet": "The held text of at most 34 characters goes in and comes back by value, with kind 1 or 2, length and
 -- remainder. .. The empty sheet is zero throughout, and bytes past the length are always zero."
 use Rattle.std.specs.Prelude.{ℕ, Bool, ◌&&◌, cond, List, [], eqb, length, take}
-use Rattle.answer.specs.declared.Step.{Step}
+use Rattle.answer.specs.Result.{Step}
 use Rattle.text.specs.Ranges.{within}
 use Rattle.text.specs.Same.{same_text}
 use Rattle.checkdigit.specs.Sum.{remainder_of, iban_remainder}

@@ -2,7 +2,7 @@
 #![tactic(auto)]
 
 ghost use Rattle.std.specs.Prelude.{◌≡◌, take};
-ghost use Rattle.answer.specs.declared.Step.{Step};
+ghost use Rattle.answer.specs.Result.{Step};
 ghost use Rattle.answer.specs.declared.Reason.{Reason};
 ghost use Rattle.text.specs.Same.{same_text};
 ghost use Rattle.iban.specs.Format.{padded};

@@ -10,11 +10,10 @@ use lib.Dec.{T, eqb, ltb, eqb→eq}
 use lib.ListN.{length, set, get_or}
 use Rattle.answer.specs.Steps.{must, ◌and_then◌, ◌or_accept◌}
 use Rattle.answer.specs.Table.{number_of, value_of, row_of}
-use Rattle.answer.specs.declared.Answer.TheVariants.{Accepted}
+use Rattle.std.specs.Prelude.{Err}
+use Rattle.answer.specs.Result.{Accepted, Step, Pass, Stop}
 use Rattle.answer.specs.declared.Reason.{Reason}
 use Rattle.answer.specs.declared.Reason.TheVariants.{NoPlace, Unfit, Remainder}
-use Rattle.answer.specs.declared.Step.{Step}
-use Rattle.answer.specs.declared.Step.TheVariants.{Pass, Stop}
 use Rattle.answer.proofs.Laws.{accepted_pass, test_held}
 use Rattle.text.specs.Class.{allowed}
 use Rattle.text.specs.declared.Set.TheVariants.{LettersDigits}
@@ -72,7 +71,7 @@ kind_of kind t = refl
 told_by : (kind : ℕ) (s : Sheet) (x : Step) (new old : List ℕ) → s.kind ≡ kind → s ≡ sheet_of kind old → repair_by x s new ≡ held_back kind (checked_by kind x new old)
 unfolding repair_by checked_by
 told_by kind s Pass new old e f = rw e
-told_by kind s (Stop r k) new old e f = rw f
+told_by kind s (Err x) new old e f = rw f
 
 -- a call on the sheet of a text is a step on the text
 pub call-is : (kind : ℕ) (t : List ℕ) (q : Request) → Fit kind t
@@ -86,7 +85,7 @@ call-is kind t q f =
 pub told_fit : (kind : ℕ) (t : List ℕ) (q : Request) → Fit kind t → (x : Step) → request_steps kind t q ≡ x → Fit kind (checked_by kind x (asked kind t q) t).text
 unfolding checked_by
 told_fit kind t q f Pass e = asked_fit kind t q f e
-told_fit kind t q f (Stop r k) e = f
+told_fit kind t q f (Err x) e = f
 
 -- .. and none of them answers 20
 Other : Step → Type 0
@@ -96,7 +95,7 @@ Other (Stop r k) = (row_of r).number ≢ 20
 other-then : (a b : Step) → Other a → Other b → Other (a and_then b)
 unfolding Other ◌and_then◌
 other-then Pass b p q = q
-other-then (Stop r k) b p q = p
+other-then (Err e) b p q = p
 
 other-must : (t : Bool) (r : Reason) (k : ℕ) → (row_of r).number ≢ 20 → Other (must t r k)
 unfolding Other
@@ -106,7 +105,7 @@ other-must false r k n = n
 other-unfit : (x : Step) → Other (unfit x)
 unfolding Other
 other-unfit Pass = tt
-other-unfit (Stop r k) = λ e. omega arith
+other-unfit (Err x) = λ e. omega arith
 
 other_place : (n p : ℕ) → Other (place_step n p)
 unfolding place_step
@@ -137,7 +136,7 @@ unfolding repair_by Other
 not_twenty s q f Pass e =
     rw (fresh s.kind (asked s.kind (held s) q) (asked_fit s.kind (held s) q f e))
     (remainder_number (remainder_by s.kind (asked s.kind (held s) q)) (last_check s.kind))
-not_twenty s q f (Stop r k) e = rw e at (other_request s.kind (held s) q)
+not_twenty s q f (Err x) e = rw e at (other_request s.kind (held s) q)
 
 -- acceptance says that the remainder is 1
 one_of : (r k n : ℕ) → remainder_step r k or_accept 1 ≡ Accepted n → r ≡ 1

@@ -11,11 +11,10 @@ use lib.ListN.{length, set, get_or, length-set}
 use lib.Seq.{get_or-set_other, set-get_or}
 use Rattle.answer.specs.Steps.{◌and_then◌}
 use Rattle.answer.specs.Table.{number_of, value_of}
-use Rattle.answer.specs.declared.Answer.TheVariants.{Accepted}
+use Rattle.std.specs.Prelude.{Err}
+use Rattle.answer.specs.Result.{Accepted, Step, Pass, Stop}
 use Rattle.answer.specs.declared.Reason.{Reason}
 use Rattle.answer.specs.declared.Reason.TheVariants.{UnknownKind, NoSheet}
-use Rattle.answer.specs.declared.Step.{Step}
-use Rattle.answer.specs.declared.Step.TheVariants.{Pass, Stop}
 use Rattle.answer.proofs.Laws.{both_pass}
 use Rattle.text.proofs.Ranges.{is_true, is_false}
 use Rattle.checkdigit.specs.Letter.{Slip}
@@ -129,7 +128,7 @@ caught s q m o n = rw (by_request s q o) (go (request_steps s.kind (held s) q) r
   where
     go : (x : Step) → request_steps s.kind (held s) q ≡ x → (repair_by x s (asked s.kind (held s) q)).answer ≢ Accepted m
     go Pass e a = n (accepted_one s.kind (asked s.kind (held s) q) m (asked_fit s.kind (held s) q o.fit e) a)
-    go (Stop r k) e a = let z : ◌≡◌ {A = ℕ} 0 1 = cc in absurd (omega arith)
+    go (Err x) e a = let z : ◌≡◌ {A = ℕ} 0 1 = cc in absurd (omega arith)
 
 module _ (s : Sheet) (e : standing s ≡ true) (n : ℕ) (accepted : check_field s.kind (held s) ≡ Accepted n) (m : ℕ) where
   one : remainder_by s.kind (held s) ≡ 1
@@ -186,7 +185,7 @@ repaired_stands s q e = rw (by_request s q (stood s e)) (go (request_steps s.kin
     go Pass f =
         let t = asked s.kind (held s) q in
         stands (sheet_of s.kind t) (sheet_stood s.kind t (asked_fit s.kind (held s) q (stood s e).fit f))
-    go (Stop r k) f = e
+    go (Err x) f = e
 
 -- A call that a step refuses returns the sheet that went in.
 pub refused_keeps : (s : Sheet) (q : Request) (r : Reason) (k : ℕ) → sheet_step s and_then request_steps s.kind (held s) q ≡ Stop r k → repair_of s q ≡ refusal s r k
@@ -219,7 +218,7 @@ repair_keeps s q = go (sheet_step s and_then request_steps s.kind (held s) q) re
         let o = sheet-passed s p.0 in
         let z : ◌≡◌ {A = ℕ} 0 1 = cc (fresh_summed s.kind new (asked_fit s.kind (held s) q o.fit p.1)) in
         absurd (omega arith)
-    go (Stop r k) e f = refl
+    go (Err x) e f = refl
 
 -- An exchange of a place with itself changes nothing and answers as a fresh check.
 pub exchange_self : (s : Sheet) (i : ℕ) → standing s ≡ true → i < s.length → repair_of s (Exchange i i) ≡ record { answer = check_field s.kind (held s); sheet = s }

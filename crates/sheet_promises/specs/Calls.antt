@@ -1,9 +1,6 @@
 -- SCOPE, "The repair sheet", read over a whole list of calls: on the sheet, and on nothing but the text that it holds.
-use Rattle.std.specs.Prelude.{ℕ, ◌+◌, List, [], ◌∷◌, ◌≢◌}
-use Rattle.answer.specs.declared.Answer.{Answer}
-use Rattle.answer.specs.declared.Answer.TheVariants.{Refused}
-use Rattle.answer.specs.declared.Step.{Step}
-use Rattle.answer.specs.declared.Step.TheVariants.{Pass, Stop}
+use Rattle.std.specs.Prelude.{ℕ, ◌+◌, List, [], ◌∷◌, ◌≢◌, Err}
+use Rattle.answer.specs.Result.{Answer, Refused, Step, Pass, Stop}
 use Rattle.field.specs.Field.{check_field}
 use Rattle.sheet.specs.Sheets.{sheet_of}
 use Rattle.repairs.specs.declared.Request.{Request}
@@ -29,7 +26,7 @@ freshly kind t = record { answer = check_field kind t; text = t }
 -- a request that is not refused is made as asked, and a fresh check answers; one that is refused changes nothing
 unfoldable pub checked_by : ℕ → Step → List ℕ → List ℕ → Checked
 checked_by kind Pass new old = freshly kind new
-checked_by kind (Stop r k) new old = record { answer = Refused r k; text = old }
+checked_by kind (Err e) new old = record { answer = Refused e.reason e.check; text = old }
 
 unfoldable pub texts_after : ℕ → Checked → List Request → Checked
 texts_after kind t [] = t

@@ -1,7 +1,7 @@
 -- What each function of the C interface returns and leaves in the slices lent to it; 255 where one is too short, and then nothing is written.
 use Rattle.std.specs.Prelude.{ℕ, Bool, ◌||◌, cond, List, [], ◌∷◌, ◌++◌, ltb, length, drop}
 use Rattle.answer.specs.Table.{number_of}
-use Rattle.answer.specs.declared.Answer.{Answer}
+use Rattle.answer.specs.Result.{Answer}
 use Rattle.field.specs.Field.{check_field}
 use Rattle.verdict.specs.Verdict.{answer_bytes}
 use Rattle.batch.specs.Walk.{Outcome, call_of, stop_number}

@@ -10,7 +10,7 @@ use lib.Dec.{ltb}
 use lib.ListN.{length, drop, length-append, length-drop}
 use lib.Seq.{drop_at}
 use Rattle.answer.specs.Table.{number_of}
-use Rattle.answer.specs.declared.Answer.{Answer}
+use Rattle.answer.specs.Result.{Answer}
 use Rattle.record.specs.Number.{Bytes}
 use Rattle.verdict.specs.Verdict.{answer_bytes}
 use Rattle.sheet.specs.Load.{summed}

@@ -12,8 +12,7 @@ use lib.ListN.{length, get_or, take, drop, length-map, length-take, length-drop,
 use lib.Seq.{drop-cons, get_or-drop}
 use Rattle.answer.specs.Steps.{must, ◌and_then◌}
 use Rattle.answer.specs.declared.Reason.TheVariants.{Wrong}
-use Rattle.answer.specs.declared.Step.{Step}
-use Rattle.answer.specs.declared.Step.TheVariants.{Pass, Stop}
+use Rattle.answer.specs.Result.{Step, Pass, Stop}
 use Rattle.text.specs.Class.{allowed, is_digit}
 use Rattle.text.specs.Decimal.{digit_of, number_written}
 use Rattle.text.specs.Field.{first_place, wrong_from, in_range, digits_in}

@@ -9,8 +9,7 @@ use lib.Dec.{ltb, eqb, eqb→eq}
 use lib.ListN.{length, get_or, take, drop}
 use Rattle.answer.specs.Steps.{◌and_then◌}
 use Rattle.answer.specs.declared.Reason.TheVariants.{Length, Wrong}
-use Rattle.answer.specs.declared.Step.{Step}
-use Rattle.answer.specs.declared.Step.TheVariants.{Pass}
+use Rattle.answer.specs.Result.{Step, Pass}
 use Rattle.answer.proofs.Laws.{both_pass, test_held}
 use Rattle.text.specs.Decimal.{number_written}
 use Rattle.text.specs.Field.{first_place, length_is, wrong_from, first_wrong, literal_at, in_range, digits_in}

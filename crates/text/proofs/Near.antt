@@ -8,12 +8,10 @@ use lib.Dec.{ltb, eqb, leb→le}
 use lib.ListN.{length, get_or, take, drop}
 use Rattle.answer.specs.Steps.{must, ◌and_then◌, ◌or_accept◌}
 use Rattle.answer.specs.Table.{row_of, place_of, value_of}
-use Rattle.answer.specs.declared.Answer.{Answer}
-use Rattle.answer.specs.declared.Answer.TheVariants.{Refused}
+use Rattle.std.specs.Prelude.{Err}
+use Rattle.answer.specs.Result.{Answer, Refused, Step, Pass, Stop}
 use Rattle.answer.specs.declared.Reason.{Reason}
 use Rattle.answer.specs.declared.Reason.TheVariants.{Length, Wrong, Range, Missing}
-use Rattle.answer.specs.declared.Step.{Step}
-use Rattle.answer.specs.declared.Step.TheVariants.{Pass, Stop}
 use Rattle.text.specs.Class.{allowed}
 use Rattle.text.specs.Decimal.{number_written}
 use Rattle.text.specs.Field.{length_is, present, wrong_from, first_wrong, literal_at, in_range, digits_in}
@@ -53,7 +51,7 @@ near_pick false a b p q = q
 pub near_after : (a b : Step) → Near a → (a ≡ Pass → Near b) → Near (a and_then b)
 unfolding ◌and_then◌
 near_after Pass b p q = q refl
-near_after (Stop r k) b p q = p
+near_after (Err e) b p q = p
 
 pub near_then : (a b : Step) → Near a → Near b → Near (a and_then b)
 near_then a b p q = near_after a b p (λ e. q)
@@ -61,7 +59,7 @@ near_then a b p q = near_after a b p (λ e. q)
 pub small_accept : (a : Step) (n : ℕ) → Near a → (a ≡ Pass → n < 2 ^ 64) → Small (a or_accept n)
 unfolding ◌or_accept◌
 small_accept Pass n p q = record { place = omega arith; value = q refl }
-small_accept (Stop r k) n p q = p.small r k refl
+small_accept (Err e) n p q = p.small e.reason e.check refl
 
 pub near_present : (at end k : ℕ) → at < 2 ^ 16 → Near (present at end k)
 unfolding present

@@ -4,8 +4,7 @@ use mathlib.Core.Path.{◌≡◌, refl}
 use mathlib.Core.List.{List, [], ◌∷◌, map}
 use Rattle.answer.specs.Steps.{◌and_then◌}
 use Rattle.answer.specs.declared.Reason.TheVariants.{Length, Wrong, Range}
-use Rattle.answer.specs.declared.Step.{Step}
-use Rattle.answer.specs.declared.Step.TheVariants.{Pass, Stop}
+use Rattle.answer.specs.Result.{Step, Pass, Stop}
 use Rattle.text.specs.Class.{class_of}
 use Rattle.text.specs.Decimal.{decimal, number_written, fitted}
 use Rattle.text.specs.Field.{first_place, length_is, wrong_from, first_wrong, literal_at, in_range, digits_in, two_digits, four_digits}

@@ -2,8 +2,7 @@
 use Rattle.std.specs.Prelude.{ℕ, zero, suc, ◌+◌, ◌-◌, List, [], ◌∷◌, eqb, ltb, length, get_or, take, drop, cond}
 use Rattle.answer.specs.Steps.{must, ◌and_then◌}
 use Rattle.answer.specs.declared.Reason.TheVariants.{Length, Wrong, Range, Missing}
-use Rattle.answer.specs.declared.Step.{Step}
-use Rattle.answer.specs.declared.Step.TheVariants.{Pass}
+use Rattle.answer.specs.Result.{Step, Pass}
 use Rattle.text.specs.Ranges.{within}
 use Rattle.text.specs.Class.{allowed}
 use Rattle.text.specs.Decimal.{number_written}

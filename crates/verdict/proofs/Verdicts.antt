@@ -8,7 +8,7 @@ use lib.Dec.{ltb}
 use lib.ListN.{length, get_or, length-append, get_or-append}
 use borrow.Author.Tests.{le-ltb}
 use Rattle.answer.specs.Table.{place_of, value_of}
-use Rattle.answer.specs.declared.Answer.{Answer}
+use Rattle.answer.specs.Result.{Answer}
 use Rattle.record.specs.Number.{little_at, Bytes}
 use Rattle.record.proofs.Numbers.{number_append, number-most, read_back}
 use Rattle.verdict.specs.Verdict.{verdict_size, answer_bytes, verdict, read_verdict, saying}

@@ -1,7 +1,7 @@
 -- SCOPE, "The batch": the bytes that a record yields, "length 20 and the kind, two bytes each; the record's stream offset, eight; the answer, one; zero, one; place, two; number, eight; all little-endian".
 use Rattle.std.specs.Prelude.{ℕ, ◌-◌, cond, List, ◌∷◌, ◌++◌, ltb, length, get_or}
 use Rattle.answer.specs.Table.{number_of, place_of, value_of}
-use Rattle.answer.specs.declared.Answer.{Answer}
+use Rattle.answer.specs.Result.{Answer}
 use Rattle.record.specs.Number.{to_bytes, little_at}
 use Rattle.verdict.specs.declared.Verdict.{Verdict}
 

@@ -1,7 +1,7 @@
 -- `repairs::text_step` meets its contract: what the character steps say, as refusal 22.
 use mathlib.Core.Path.{ap, sym}
 use Rattle.answer.specs.declared.Numbers.{Numbers}
-use Rattle.answer.specs.declared.Step.TheVariants.{Pass, Stop}
+use Rattle.answer.specs.Result.{Pass, Stop}
 use Rattle.repairs.proofs.Repairs.{text_step_is}
 use Rattle.repairs.proofs.text_step.Goals as goal
 
