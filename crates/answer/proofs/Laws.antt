@@ -1,12 +1,13 @@
 -- Laws of steps, for the proofs of rules: what a chain's calls ensure, joined.
 use Prim.Native.Nat.{ℕ}
-use mathlib.Core.Path.{◌≡◌, refl}
+use mathlib.Core.Path.{◌≡◌, refl, ap}
 use mathlib.Core.Bool.{Bool, true, false}
 use native.Mathlib.Omega.{arith}
 use lib.Dec.{T}
 use Rattle.std.specs.Prelude.{Err}
 use Rattle.answer.specs.declared.Reason.{Reason}
-use Rattle.answer.specs.Result.{Answer, Accepted, Refused}
+use Rattle.answer.specs.declared.Refusal.{Refusal}
+use Rattle.answer.specs.Result.{Answer, Accepted, refusal}
 use Rattle.answer.specs.Result.{Step, Pass, Stop}
 use Rattle.answer.specs.Steps.{must, ◌and_then◌, ◌or_accept◌}
 
@@ -16,15 +17,31 @@ then_is p q t = cc
 pub accept_is : {r : Answer} {a a' : Step} (n : ℕ) → r ≡ a or_accept n → a ≡ a' → r ≡ a' or_accept n
 accept_is n p q = cc
 
--- where a step stops, the whole chain stops with its reason
-pub stops : {a : Step} (r : Reason) (k : ℕ) (b : Step) → a ≡ Stop r k → a and_then b ≡ Stop r k
+-- two stops that are equal have equal parts
+pub stops_alike : {r q : Reason} {k j : ℕ} → Stop r k ≡ Stop q j → (r ≡ q) × (k ≡ j)
+stops_alike {r} {q} {k} {j} e = let f : refusal r k ≡ refusal q j = cc in (ap (λ (x : Refusal). x.reason) f, ap (λ (x : Refusal). x.check) f)
+
+-- where a step stops, the whole chain stops with its refusal
+pub stops : {a : Step} {e : Refusal} (b : Step) → a ≡ Err e → a and_then b ≡ Err e
 unfolding ◌and_then◌
-stops r k b e = rw e
+stops b e = rw e
 
 -- where a step passes, the chain says what the next step says
 pub passes : {a : Step} (b : Step) → a ≡ Pass → a and_then b ≡ b
 unfolding ◌and_then◌
 passes b e = rw e
+
+-- a rule's answer is the refusal of the step that stopped, and acceptance where all passed
+pub refuses : {a : Step} {e : Refusal} (n : ℕ) → a ≡ Err e → a or_accept n ≡ Err e
+unfolding ◌or_accept◌
+refuses n e = rw e
+
+pub accepts : {a : Step} (n : ℕ) → a ≡ Pass → a or_accept n ≡ Accepted n
+unfolding ◌or_accept◌
+accepts n e = rw e
+
+-- for a function whose steps are handed on by `?`: what each `?` has shown of the chain
+pub ruleset steps = (stops, passes, refuses, accepts)
 
 -- a chain that passes passes at each step
 pub both_pass : (a b : Step) → a and_then b ≡ Pass → (a ≡ Pass) × (b ≡ Pass)

@@ -1,7 +1,7 @@
 -- SCOPE, "Answer numbers": a rule is a row of steps, and "the first that fails answers".
 use Rattle.std.specs.Prelude.{ℕ, ◌+◌, ◌*◌, Bool, true, false, Err}
 use Rattle.answer.specs.declared.Reason.{Reason}
-use Rattle.answer.specs.Result.{Answer, Accepted, Refused}
+use Rattle.answer.specs.Result.{Answer, Accepted}
 use Rattle.answer.specs.Result.{Step, Pass, Stop}
 
 -- the check number of a rule's step (docs/CHECKS.md): the kind times 100 and the step's position in the rule

@@ -19,7 +19,7 @@ use Rattle.answer.specs.declared.Reason.TheVariants.{
   NoPlace,
   Unfit,
 }
-use Rattle.answer.specs.Result.{Answer, Accepted, Refused}
+use Rattle.answer.specs.Result.{Answer, Accepted}
 
 -- a row of the table: number, place and value
 abbrev pub row : ℕ → ℕ → ℕ → Numbers

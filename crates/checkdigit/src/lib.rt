@@ -7,7 +7,7 @@ ghost use Rattle.checkdigit.specs.Sum.{character_value, character_digits, number
 ghost use Rattle.checkdigit.specs.Fill.{Fills};
 ghost use Rattle.checkdigit.specs.RemainderStep.{remainder_step};
 
-use answer::{Reason, Step};
+use answer::{Reason, Step, must};
 
 fn wide(b: u8) -> u64
     ensures { result ≡ b }
@@ -109,8 +109,5 @@ pub fn check_digits(r: u64) -> u64
 pub fn remainder_is_one(r: u64, check: u16) -> Step
     ensures { result ≡ remainder_step r check }
 {
-    if r == 1 {
-        return Step::Pass;
-    }
-    Step::Stop(Reason::Remainder { rest: r }, check as u32)
+    must(r == 1, Reason::Remainder { rest: r }, u32::from(check))
 }

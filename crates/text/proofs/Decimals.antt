@@ -12,7 +12,8 @@ use lib.Pow.{pow-add}
 use lib.ListN.{length, take, drop, get_or, length-append, length-map, take-append-drop}
 use lib.Seq.{take-suc}
 use Rattle.text.specs.Decimal.{decimal, digit_of, number_written, fitted}
-use Rattle.text.specs.declared.Number.TheVariants.{Fits, Over}
+use Rattle.std.specs.Prelude.{Option, Some, None}
+use Rattle.std.specs.Option.{SomeIff}
 use Rattle.text.proofs.Ranges.{both_parts, every}
 
 pub decimal-append : (x y : List ℕ) → decimal (x ++ y) ≡ decimal x * 10 ^ length y + decimal y
@@ -59,26 +60,34 @@ unfolding number_written decimal
 number-none = refl
 
 -- the 64-bit limit: a number that fits, one that does not, and what each answer has shown
-pub fits : (n : ℕ) → n < 2 ^ 64 → Fits n ≡ fitted n
+pub fits : (n : ℕ) → n < 2 ^ 64 → Some n ≡ fitted n
 unfolding fitted
 fits n h = rw (lt-ltb n (2 ^ 64) h)
 
-pub over : (n : ℕ) → 2 ^ 64 ≤ n → Over ≡ fitted n
+pub over : (n : ℕ) → 2 ^ 64 ≤ n → None ≡ fitted n
 unfolding fitted
 over n h = rw (le-ltb n (2 ^ 64) h)
 
-by_test : (n m : ℕ) (t : Bool) → ltb n (2 ^ 64) ≡ t → cond t (Fits n) Over ≡ Fits m → (m ≡ n) × (n < 2 ^ 64)
+by_test : (n m : ℕ) (t : Bool) → ltb n (2 ^ 64) ≡ t → cond t (Some n) None ≡ Some m → (m ≡ n) × (n < 2 ^ 64)
 by_test n m true h e = (cc, ltb-true n (2 ^ 64) h)
 by_test n m false h e = let z : ◌≡◌ {A = ℕ} 0 1 = cc in absurd (omega arith)
 
-pub fitted-is : (n m : ℕ) → fitted n ≡ Fits m → (m ≡ n) × (n < 2 ^ 64)
+pub fitted-is : (n m : ℕ) → fitted n ≡ Some m → (m ≡ n) × (n < 2 ^ 64)
 unfolding fitted
 fitted-is n m e = by_test n m (ltb n (2 ^ 64)) refl e
 
-over_test : (t : Bool) (n : ℕ) → cond t (Fits n) Over ≡ Over → t ≡ false
+over_test : (t : Bool) (n : ℕ) → cond t (Some n) None ≡ None → t ≡ false
 over_test true n e = let z : ◌≡◌ {A = ℕ} 0 1 = cc in absurd (omega arith)
 over_test false n e = refl
 
-pub over-is : (n : ℕ) → fitted n ≡ Over → 2 ^ 64 ≤ n
+pub over-is : (n : ℕ) → fitted n ≡ None → 2 ^ 64 ≤ n
 unfolding fitted
 over-is n e = ltb-false n (2 ^ 64) (over_test (ltb n (2 ^ 64)) n e)
+
+-- what a checked sum or product says
+pub checked_fits : (n : ℕ) (r : Option ℕ) → SomeIff r (n < 2 ^ 64) n → r ≡ fitted n
+checked_fits n None h = over n (omega (arith, h))
+checked_fits n (Some x) h = rw h.1 (fits n h.0)
+
+pub past_fits : (n d : ℕ) → (n < 2 ^ 64 → ⊥) → None ≡ fitted (n + d)
+past_fits n d h = over (n + d) (omega (arith, h))

@@ -1,5 +1,5 @@
 -- Laws of the shared steps: a search goes on past an allowed byte, stops at another, and what a search that passed has shown.
-use Prim.Native.Nat.{ℕ, zero, suc, ◌+◌, ◌-◌, ◌*◌, ◌^◌, ◌≤◌, ◌<◌}
+use Prim.Native.Nat.{ℕ, zero, suc, ◌+◌, ◌-◌, ◌^◌, ◌≤◌, ◌<◌}
 use mathlib.Core.Path.{◌≡◌, refl, sym, ◌∙◌}
 use mathlib.Core.Bool.{Bool, true, false, cond}
 use mathlib.Core.List.{List, [], ◌∷◌, map}
@@ -8,33 +8,39 @@ use native.Mathlib.Numerals.{add-one}
 use native.Mathlib.Omega.{arith}
 use borrow.Author.Tests.{eq-eqb, ne_eqb}
 use lib.Dec.{T, eqb, leb, le→leb, eqb→eq}
-use lib.ListN.{length, get_or, take, drop, length-map, length-take, length-drop, drop_of_length-le}
-use lib.Seq.{drop-cons, get_or-drop}
+use lib.ListN.{length, get_or, take, drop, length-map, length-take}
+use lib.Seq.{drop-cons}
+use Rattle.std.specs.List.{AllWithin, HoldsAt}
+use Rattle.std.specs.Prelude.{Option, Some}
+use Rattle.std.specs.Option.{MatchOption, unwrap_or}
+use Rattle.std.proofs.lemmas.Iterator.{index_from_first}
+use mathlib.Core.Logic.{◌≢◌}
 use Rattle.answer.specs.Steps.{must, ◌and_then◌}
 use Rattle.answer.specs.declared.Reason.TheVariants.{Wrong}
 use Rattle.answer.specs.Result.{Step, Pass, Stop}
 use Rattle.text.specs.Class.{allowed, is_digit}
-use Rattle.text.specs.Decimal.{digit_of, number_written}
-use Rattle.text.specs.Field.{first_place, wrong_from, in_range, digits_in}
+use Rattle.text.specs.Decimal.{digit_of, number_written, fitted}
+use Rattle.text.specs.Field.{first_place, wrong_from}
 use Rattle.text.specs.declared.Set.{Set}
 use Rattle.text.specs.declared.Set.TheVariants.{Digits}
 use Rattle.text.proofs.Ranges.{both_of, every}
 use Rattle.text.proofs.Classes.{digit_ends, allowed-ends}
-use Rattle.text.proofs.Decimals.{decimal-most, number-none, number_more}
+use Rattle.text.proofs.Decimals.{decimal-most, fits}
 
--- the search for a byte, from a place on
-module _ (b : ℕ) (s : List ℕ) (i : ℕ) where
-  pub first_here : i < length s → get_or s i 0 ≡ b → first_place b (drop i s) ≡ 0
-  unfolding first_place
-  first_here h e = rw (drop-cons s i 0 h, eq-eqb (get_or s i 0) b e)
+-- the first place, by the library's words for what a search has found
+pub first_place_is : (b : ℕ) (s : List ℕ) (r : Option ℕ) → MatchOption r (AllWithin (λ x. x ≢ b) s 0 (length s)) (λ i. (i < length s) × HoldsAt (λ x. x ≡ b) s i × AllWithin (λ x. x ≢ b) s 0 i)
+    → unwrap_or r (length s) ≡ first_place b s
+unfolding first_place
+first_place_is b s r h = sym (index_from_first (first_place b) (λ x. x ≡ b) (λ x. x ≢ b) none hit miss s r h)
+  where
+    none : first_place b [] ≡ 0
+    none = refl
 
-  pub first_next : i < length s → (get_or s i 0 ≡ b → ⊥) → first_place b (drop i s) ≡ suc (first_place b (drop (i + 1) s))
-  unfolding first_place
-  first_next h n = rw (add-one i, drop-cons s i 0 h, ne_eqb (get_or s i 0) b n)
+    hit : (x : ℕ) (t : List ℕ) → x ≡ b → first_place b (x ∷ t) ≡ 0
+    hit x t e = rw (eq-eqb x b e)
 
-  pub first-none : length s ≤ i → first_place b (drop i s) ≡ 0
-  unfolding first_place
-  first-none h = rw (drop_of_length-le s h)
+    miss : (x : ℕ) (t : List ℕ) → x ≢ b → first_place b (x ∷ t) ≡ first_place b t + 1
+    miss x t n = rw (ne_eqb x b n, add-one (first_place b t))
 
 -- a byte's first place is at most the field's length
 at_most : (t : Bool) (n m : ℕ) → n ≤ m → cond t 0 (suc n) ≤ suc m
@@ -68,6 +74,11 @@ allowed-inside set s i t = let e = allowed-ends set (get_or s i 0) t in inside s
 
 -- the search for a byte that a set does not allow
 module _ (set : Set) (s : List ℕ) (i k : ℕ) where
+  pub wrong_step : (n : ℕ) → 0 < n → wrong_from set s i n k ≡ must (allowed set (get_or s i 0)) (Wrong i) k and_then wrong_from set s (i + 1) (n - 1) k
+  unfolding wrong_from
+  wrong_step zero h = absurd (omega arith)
+  wrong_step (suc n) h = let q : suc n - 1 ≡ n = omega arith in rw q
+
   pub wrong_on : (n : ℕ) → 0 < n → allowed set (get_or s i 0) ≡ true → wrong_from set s i n k ≡ wrong_from set s (i + 1) (n - 1) k
   unfolding wrong_from ◌and_then◌
   wrong_on zero h e = absurd (omega arith)
@@ -126,38 +137,9 @@ pub digits_there : (s : List ℕ) (i n k : ℕ) {r : Step} → 0 < n → n ≤ 4
     → (i + n ≤ length s) × (number_written (take n (drop i s)) < 10000)
 digits_there s i n k l m e p = let q = sym e ∙ p in (all-inside Digits s i n k l q, digits-most s i n k 4 m q)
 
--- a pair of digits at a place: the first wrong one, or the range of the number that they write. r says whether the byte a is a digit.
-module _ (s : List ℕ) (i : ℕ) where
-  pub digit_inside : {a : ℕ} {r : Bool} → a ≡ get_or s i 0 → r ≡ is_digit a → r ≡ true → i < length s
-  digit_inside e d t = allowed-inside Digits s i (rw (← e, ← d, t) tt)
-
-  pair_number : i + 1 < length s → number_written (take 2 (drop i s)) ≡ 10 * digit_of (get_or s i 0) + digit_of (get_or s (i + 1) 0)
-  pair_number h =
-      let l = drop i s in
-      let n : 1 < length l = omega (arith, length-drop i s) in
-      omega (arith, number_more l 1 n, number_more l 0 (omega arith), number-none, rw (add-zero i) at (get_or-drop i s 0 0), get_or-drop i s 1 0)
-
-  module _ (low high k : ℕ) {a : ℕ} {r : Bool} (e : a ≡ get_or s i 0) (d : r ≡ is_digit a) where
-    pub pair_first : r ≡ false → Stop (Wrong i) k ≡ digits_in 2 s i low high k
-    unfolding digits_in ◌and_then◌
-    pair_first t = rw (wrong_here Digits s i k 2 (omega arith) (rw (← e, ← d) t))
-
-    module _ (t : r ≡ true) {b : ℕ} {q : Bool} (f : b ≡ get_or s (i + 1) 0) (g : q ≡ is_digit b) where
-      pub pair_second : q ≡ false → Stop (Wrong (i + 1)) k ≡ digits_in 2 s i low high k
-      unfolding digits_in ◌and_then◌
-      pair_second u = rw (wrong_on Digits s i k 2 (omega arith) (rw (← e, ← d) t), wrong_here Digits s (i + 1) k 1 (omega arith) (rw (← f, ← g) u))
-
-      pub pair_range : {x y : ℕ} {z : Step} → q ≡ true → x ≡ digit_of a → y ≡ digit_of b → z ≡ in_range i low high (10 * x + y) (k + 1) → z ≡ digits_in 2 s i low high k
-      unfolding digits_in ◌and_then◌
-      pair_range u v w h =
-          h
-          ∙ rw (
-            wrong_on Digits s i k 2 (omega arith) (rw (← e, ← d) t),
-            wrong_on Digits s (i + 1) k 1 (omega arith) (rw (← f, ← g) u),
-            ← wrong_none Digits s (i + 1 + 1) k,
-            pair_number (allowed-inside Digits s (i + 1) (rw (← f, ← g, u) tt)),
-            v,
-            w,
-            e,
-            f,
-          )
+-- and read as a number they fit
+pub digits_read : (s : List ℕ) (i n k : ℕ) {r : Step} {o : Option ℕ} → 0 < n → n ≤ 4 → r ≡ wrong_from Digits s i n k → r ≡ Pass
+    → o ≡ fitted (number_written (take (i + n - i) (drop i s))) → o ≡ Some (number_written (take n (drop i s)))
+digits_read s i n k l m e p q =
+    let w : i + n - i ≡ n = omega arith in
+    (rw w at q) ∙ sym (fits (number_written (take n (drop i s))) (omega (arith, (digits_there s i n k l m e p).1)))

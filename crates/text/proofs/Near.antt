@@ -6,6 +6,7 @@ use mathlib.Core.List.{List}
 use native.Mathlib.Omega.{arith}
 use lib.Dec.{ltb, eqb, leb→le}
 use lib.ListN.{length, get_or, take, drop}
+use Rattle.answer.proofs.Laws.{stops_alike}
 use Rattle.answer.specs.Steps.{must, ◌and_then◌, ◌or_accept◌}
 use Rattle.answer.specs.Table.{row_of, place_of, value_of}
 use Rattle.std.specs.Prelude.{Err}
@@ -37,7 +38,7 @@ pub near_pass : Near Pass
 near_pass = record { small = λ r k e. let z : ◌≡◌ {A = ℕ} 0 1 = cc in absurd (omega arith) }
 
 pub near_at : (r : Reason) (k : ℕ) → (row_of r).place < 2 ^ 16 → (row_of r).value < 2 ^ 64 → Near (Stop r k)
-near_at r k p v = record { small = λ r' k' e. let q : r ≡ r' = cc in rw (← q) (record { place = p; value = v }) }
+near_at r k p v = record { small = λ r' k' e. rw (← (stops_alike e).0) (record { place = p; value = v }) }
 
 pub near_must : (t : Bool) (r : Reason) (k : ℕ) → (row_of r).place < 2 ^ 16 → (row_of r).value < 2 ^ 64 → Near (must t r k)
 near_must true r k p v = near_pass

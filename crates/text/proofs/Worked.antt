@@ -11,8 +11,7 @@ use Rattle.text.specs.Field.{first_place, length_is, wrong_from, first_wrong, li
 use Rattle.text.specs.Quote.{bytes_of}
 use Rattle.text.specs.declared.Class.{Class}
 use Rattle.text.specs.declared.Class.TheVariants.{Digit, Capital, Small, Other}
-use Rattle.text.specs.declared.Number.{Number}
-use Rattle.text.specs.declared.Number.TheVariants.{Fits, Over}
+use Rattle.std.specs.Prelude.{Option, Some, None}
 use Rattle.text.specs.declared.Set.TheVariants.{Capitals, CapitalsDigits}
 
 -- the bytes beside each end of a class
@@ -23,7 +22,7 @@ ends = map class_of (bytes_of "/09:@AZ[`az{")
 abbrev places : List ℕ
 places = first_place 46 (bytes_of "1.2.3") ∷ first_place 46 (bytes_of "100") ∷ first_place 46 (bytes_of "") ∷ []
 
-abbrev numbers : List Number
+abbrev numbers : List (Option ℕ)
 numbers =
     map (λ t. fitted (number_written (bytes_of t))) ("" ∷ "0042" ∷ "18446744073709551615" ∷ "18446744073709551616" ∷ "000018446744073709551615" ∷ [])
 
@@ -44,7 +43,7 @@ steps =
 
 pub worked : (ends ≡ Other ∷ Digit ∷ Digit ∷ Other ∷ Other ∷ Capital ∷ Capital ∷ Other ∷ Other ∷ Small ∷ Small ∷ Other ∷ [])
     × (places ≡ 1 ∷ 3 ∷ 0 ∷ [])
-    × (numbers ≡ Fits 0 ∷ Fits 42 ∷ Fits (2 ^ 64 - 1) ∷ Over ∷ Fits (2 ^ 64 - 1) ∷ [])
+    × (numbers ≡ Some 0 ∷ Some 42 ∷ Some (2 ^ 64 - 1) ∷ None ∷ Some (2 ^ 64 - 1) ∷ [])
     × (steps
     ≡ Pass
     ∷ Stop (Length 0 9) 401

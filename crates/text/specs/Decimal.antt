@@ -1,7 +1,5 @@
 -- The number that decimal digits write, the first the highest: each digit at the weight of the power of ten for the digits behind it.
-use Rattle.std.specs.Prelude.{ℕ, ◌+◌, ◌-◌, ◌*◌, ◌^◌, List, [], ◌∷◌, map, ltb, length, cond}
-use Rattle.text.specs.declared.Number.{Number}
-use Rattle.text.specs.declared.Number.TheVariants.{Fits, Over}
+use Rattle.std.specs.Prelude.{ℕ, ◌+◌, ◌-◌, ◌*◌, ◌^◌, List, [], ◌∷◌, map, ltb, length, cond, Option, Some, None}
 
 unfoldable pub decimal : List ℕ → ℕ
 decimal [] = 0
@@ -16,5 +14,5 @@ unfoldable pub number_written : List ℕ → ℕ
 number_written t = decimal (map digit_of t)
 
 -- SCOPE's limit of 64 bits: a number of 2^64 or more does not fit
-unfoldable pub fitted : ℕ → Number
-fitted n = cond (ltb n (2 ^ 64)) (Fits n) Over
+unfoldable pub fitted : ℕ → Option ℕ
+fitted n = cond (ltb n (2 ^ 64)) (Some n) None

@@ -1,32 +1,33 @@
--- `text::wrong_from` meets its contract. The invariant: the search from i over what is left gives what the whole search gives.
--- An allowed byte stands inside the field, so the next place fits. The measure is what is left.
-use lib.ListN.{get_or}
-use mathlib.Core.Path.{◌≡◌, refl, sym, ◌∙◌}
-use mathlib.Core.Bool.{true}
-use native.Mathlib.Omega.{arith}
-use Rattle.text.proofs.Fields.{allowed-inside, wrong_on, wrong_here, wrong_none}
+-- `text::wrong_from` meets its contract: a byte that is allowed stands in the field, and the search goes on past it.
+use Rattle.std.proofs.Common.{◌≡◌, ◌+◌, ◌-◌, sym, ◌∙◌, arith, get_or, Ok, Err}
+use Rattle.std.proofs.lemmas.Result.{err_from_is_err_and}
+use Rattle.answer.specs.Steps.{must}
+use Rattle.answer.specs.declared.Reason.TheVariants.{Wrong}
+use Rattle.answer.proofs.Laws.{stops, passes, test_held}
 use Rattle.text.specs.Class.{allowed}
+use Rattle.text.proofs.Fields.{allowed-inside, wrong_step, wrong_none}
 use Rattle.text.proofs.wrong_from.Goals as goal
 
-pub loop-left-init : goal.loop-left-init
-loop-left-init c = refl
+pub returns-in_err-must : goal.returns-in_err-must
+returns-in_err-must c =
+    let p = err_from_is_err_and c.from_residual.result c.from_residual.ensures.1 in
+    let m : must (allowed c.args.set (get_or c.args.s.now (c.args.from + c.loop-k.k) 0)) (Wrong (c.args.from + c.loop-k.k)) c.args.check ≡ Err c.in_err-must.field-0.0
+    = rw (← c.at.ensures, ← c.allows.ensures, ← c.from.ensures, ← c.must.ensures) c.in_err-must.was in
+    rw (p.1, p.2)
+    (sym (c.loop-k.invariant.1 ∙ wrong_step c.args.set c.args.s.now (c.args.from + c.loop-k.k) c.args.check (c.args.n - c.loop-k.k) (omega arith) ∙ stops _ m))
 
--- the byte at i is allowed
-pub overflow_add-i : goal.overflow_add-i
-overflow_add-i c =
-    let good : allowed c.args.set (get_or c.args.s.now c.loop-left.i 0) ≡ true = rw (← c.at.ensures, ← c.allows.ensures) c.if-allows.true in
-    omega (arith, allowed-inside c.args.set c.args.s.now c.loop-left.i (rw good tt))
-
-pub loop-left-preserved : goal.loop-left-preserved
-loop-left-preserved c =
-    c.loop-left.invariant ∙ wrong_on c.args.set c.args.s.now c.loop-left.i c.args.check c.loop-left.left c.loop-left-test.true ((rw (← c.at.ensures, ← c.allows.ensures) c.if-allows.true))
-
-pub returns-else-allows : goal.returns-else-allows
-returns-else-allows c =
-    sym (c.loop-left.invariant ∙ wrong_here c.args.set c.args.s.now c.loop-left.i c.args.check c.loop-left.left c.loop-left-test.true
-    (rw (← c.at.ensures, ← c.allows.ensures) c.if-allows.false))
+pub loop-k-preserved : goal.loop-k-preserved
+loop-k-preserved c =
+    let m : must (allowed c.args.set (get_or c.args.s.now (c.args.from + c.loop-k.k) 0)) (Wrong (c.args.from + c.loop-k.k)) c.args.check ≡ Ok tt
+    = rw (← c.at.ensures, ← c.allows.ensures, ← c.from.ensures, ← c.must.ensures) c.in_ok-must.was in (
+      (λ h. omega (arith, allowed-inside c.args.set c.args.s.now (c.args.from + c.loop-k.k) (test_held _ _ _ m))),
+      let q : c.args.n - (c.loop-k.k + 1) ≡ c.args.n - c.loop-k.k - 1 = omega arith in
+          let f : c.args.from + (c.loop-k.k + 1) ≡ c.args.from + c.loop-k.k + 1 = omega arith in
+          rw (q, f)
+          (c.loop-k.invariant.1 ∙ wrong_step c.args.set c.args.s.now (c.args.from + c.loop-k.k) c.args.check (c.args.n - c.loop-k.k) (omega arith) ∙ passes _ m),
+    )
 
 pub returns : goal.returns
 returns c =
-    let none : c.loop-left.left ≡ 0 = omega arith in
-    sym (c.loop-left.invariant ∙ rw none (sym (wrong_none c.args.set c.args.s.now c.loop-left.i c.args.check)))
+    let none : c.args.n - c.loop-k.k ≡ 0 = omega arith in
+    sym (c.loop-k.invariant.1 ∙ rw none (sym (wrong_none c.args.set c.args.s.now (c.args.from + c.loop-k.k) c.args.check)))
