@@ -1,37 +1,49 @@
 -- Laws of codes: a search of a table from a place on; codes of one length are equal where their numbers are; the answer of a field that
 -- is well spelt, and of one that is not.
-use Prim.Native.Nat.{ℕ, zero, suc, ◌+◌, ◌*◌, ◌≤◌, ◌<◌}
-use mathlib.Core.Path.{◌≡◌, refl, sym, ◌∙◌}
+use Prim.Native.Nat.{ℕ, suc, ◌+◌, ◌*◌, ◌^◌, ◌≤◌, ◌<◌}
+use mathlib.Core.Path.{◌≡◌, refl, sym, ap, ◌∙◌}
 use mathlib.Core.Bool.{Bool, true, false, ◌&&◌}
 use mathlib.Core.List.{List, [], ◌∷◌, map}
 use native.Mathlib.Numerals.{add-one}
 use native.Mathlib.Omega.{arith}
-use borrow.Author.Tests.{eq-eqb, ne_eqb}
+use borrow.Author.Tests.{ne_eqb, lt-ltb, le-ltb}
 use lib.Dec.{T, eqb, ltb, eqb→eq, eqb_refl, lt→ltb, ltb→lt}
-use lib.ListN.{length, get_or, take, drop, drop_of_length-le}
-use lib.Seq.{drop-cons, take_all}
-use Rattle.answer.specs.Steps.{check, must, ◌or_accept◌}
-use Rattle.answer.specs.Result.{Accepted, Refused, Pass, Stop}
-use Rattle.answer.specs.declared.Reason.{Reason}
+use lib.ListN.{length, get_or, drop}
+use lib.Seq.{drop-cons}
+use Rattle.std.specs.Prelude.{Some, None, Err}
+use Rattle.answer.specs.Steps.{check, must, ◌and_then◌, ◌or_accept◌}
+use Rattle.answer.specs.Result.{Accepted, Step, Pass}
 use Rattle.answer.specs.declared.Reason.TheVariants.{NotListed}
-use Rattle.answer.proofs.Laws.{stops, passes, both_pass, accepted_pass}
+use Rattle.answer.proofs.Laws.{stops, both_pass, accepted_pass}
 use Rattle.text.specs.Same.{same_text}
 use Rattle.text.specs.declared.Set.TheVariants.{Capitals}
 use Rattle.text.proofs.Ranges.{is_true, both_parts, both_of, every}
 use Rattle.text.proofs.Low.{Low, low_part, low_first, length-held}
 use Rattle.text.proofs.Same.{same_text_lem}
 use Rattle.codes.specs.Codes.{any, on_list, well_spelt, code_rule, packed_on, packed, among}
+use Rattle.codes.specs.Inner.{packed_fit, table_rule}
 
--- a search of a table, from a place on
-module _ (code : ℕ) (table : List ℕ) (i : ℕ) where
-  pub among_here : i < length table → get_or table i 0 ≡ code → among (drop i table) code ≡ true
-  among_here h e = rw (drop-cons table i 0 h, eq-eqb (get_or table i 0) code e)
+-- a byte more makes a code's number no smaller
+pub packed_grows : (n : ℕ) (s : List ℕ) → n ≤ packed_on n s
+packed_grows n [] = omega arith
+packed_grows n (b ∷ s) = omega (arith, packed_grows (256 * n + b) s)
 
-  pub among_next : i < length table → (get_or table i 0 ≡ code → ⊥) → among (drop i table) code ≡ among (drop (i + 1) table) code
-  among_next h n = rw (add-one i, drop-cons table i 0 h, ne_eqb (get_or table i 0) code n)
+pub packed_next : (n : ℕ) (s : List ℕ) (i : ℕ) → i < length s → packed_on n (drop i s) ≡ packed_on (256 * n + get_or s i 0) (drop (i + 1) s)
+packed_next n s i h = rw (drop-cons s i 0 h, add-one i)
 
-  pub among_none : length table ≤ i → among (drop i table) code ≡ false
-  among_none h = rw (drop_of_length-le table h)
+-- the limit: a number that fits, and one that is past it
+pub number_fits : (s : List ℕ) (n : ℕ) → n < 2 ^ 32 → n ≡ packed s → Some n ≡ packed_fit s
+unfolding packed_fit
+number_fits s n h e = rw (← e, lt-ltb n (2 ^ 32) h)
+
+pub number_past : (s : List ℕ) → 2 ^ 32 ≤ packed s → None ≡ packed_fit s
+unfolding packed_fit
+number_past s h = rw (le-ltb (packed s) (2 ^ 32) h)
+
+-- a table of numbers of 32 bits has no higher one
+pub past_table : (table : List ℕ) (code : ℕ) → ((i : ℕ) → get_or table i 0 < 2 ^ 32) → 2 ^ 32 ≤ code → among table code ≡ false
+past_table [] code h k = refl
+past_table (x ∷ table) code h k = rw (ne_eqb x code (λ e. omega (arith, h 0))) (past_table table code (λ i. h (suc i)) k)
 
 -- every element is a byte
 abbrev bytes : List ℕ → Bool
@@ -79,15 +91,6 @@ packed-among n s (w ∷ codes) l p t =
     let k = eqb→eq (length w) n v.0 in
     rw (number_tells s w p v.1 (omega arith), packed-among n s codes l p u.1)
 
--- the bytes that are read at n places from i on
-abbrev pub read_at : List ℕ → ℕ → ℕ → List ℕ
-read_at s i zero = []
-read_at s i (suc n) = get_or s i 0 ∷ read_at s (suc i) n
-
-read_is : (s : List ℕ) (i n : ℕ) → i + n ≤ length s → read_at s i n ≡ take n (drop i s)
-read_is s i zero h = refl
-read_is s i (suc n) h = rw (drop-cons s i 0 (omega arith), read_is s (suc i) n (omega arith))
-
 every_of : (f : ℕ → Bool) (s : List ℕ) → ((j : ℕ) → j < length s → T (f (get_or s j 0))) → T (every f s)
 every_of f [] h = tt
 every_of f (b ∷ s) h = both_of (f b) (every f s) (h 0 (omega arith)) (every_of f s (λ j l. h (suc j) (omega arith)))
@@ -111,17 +114,12 @@ module _ (kind n : ℕ) (s : List ℕ) where
   unfolding code_rule
   code-low codes m e = spelt_low (both_pass _ _ (accepted_pass _ 0 m e)).0
 
-  -- a field that is not well spelt is refused by the step that says so
-  pub misspelt : (codes : List (List ℕ)) (r : Reason) (k : ℕ) → well_spelt kind n s ≡ Stop r k → Refused r k ≡ code_rule kind n codes s
-  unfolding code_rule ◌or_accept◌
-  misspelt codes r k e = rw (stops r k (on_list codes s (check kind 5)) e)
-
-  -- and of one that is, the number of its bytes decides, where every code of the list is n bytes
-  pub by_number : (codes : List (List ℕ)) (code : ℕ) (listed : Bool) → T (fit n codes) → well_spelt kind n s ≡ Pass
-      → code ≡ packed (read_at s 0 n) → listed ≡ among (map packed codes) code
-      → must listed NotListed (check kind 5) or_accept 0 ≡ code_rule kind n codes s
-  unfolding code_rule on_list
-  by_number codes code listed t e f g =
-      let l = spelt_length e in
-      let whole : read_at s 0 n ≡ s = read_is s 0 n (omega arith) ∙ take_all n s (omega arith) in
-      rw (passes (on_list codes s (check kind 5)) e, g, f, whole, packed-among n s codes l (spelt_bytes e) t)
+  -- the rule over a table of numbers is that over the list, where the table is the list packed and every code of the list is n bytes
+  pub by_table : (codes : List (List ℕ)) → T (fit n codes) → table_rule kind n (map packed codes) s ≡ code_rule kind n codes s
+  unfolding code_rule table_rule on_list
+  by_table codes t = ap (λ (a : Step). a or_accept 0) (either (well_spelt kind n s) refl)
+    where
+      either : (a : Step) → well_spelt kind n s ≡ a
+          → a and_then must (among (map packed codes) (packed s)) NotListed (check kind 5) ≡ a and_then must (any (same_text s) codes) NotListed (check kind 5)
+      either Pass e = rw (packed-among n s codes (spelt_length e) (spelt_bytes e) t)
+      either (Err x) e = stops _ refl ∙ sym (stops _ refl)

@@ -1,2 +1,3 @@
 -- The definitions that the contracts of `codes` cite.
 pub mod Codes
+pub mod Inner

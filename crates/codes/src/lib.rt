@@ -1,54 +1,58 @@
-// Codes of capital letters that stand on a list: what the rules of kinds 7 and 8 share.
+// Codes of capital letters that stand on a list: the rule that kinds 7 and 8 share.
 #![tactic(auto)]
 
-ghost use Rattle.std.specs.Prelude.{◌≡◌, ◌+◌, ◌*◌};
-ghost use Rattle.answer.specs.Steps.{check, must, ◌or_accept◌};
-ghost use Rattle.answer.specs.declared.Reason.TheVariants.{NotListed};
-ghost use Rattle.codes.specs.Codes.{well_spelt, among};
+ghost use Rattle.std.specs.Prelude.{◌≡◌};
+ghost use Rattle.codes.specs.Codes.{well_spelt, packed, among};
+ghost use Rattle.codes.specs.Inner.{packed_fit, table_rule};
 
-use answer::{Answer, Reason, Step};
+use answer::{Answer, Reason, Step, must};
 use text::Set;
 
 // The steps that come before the search in the list, for a code of n bytes.
+#[tactic(auto, using(answer::proofs::Laws::steps), unfolding(crate::specs::Codes::well_spelt))]
 pub fn well_spelt(kind: u8, n: usize, s: &[u8]) -> Step
     ensures { result ≡ well_spelt kind n s.now }
 {
-    let first = 100 * kind as u16;
-    text::present(0, s.len(), first + 1)
-        .then(text::length_is(s, n, first + 2))
-        .then(text::first_wrong(Set::Letters, s, 0, n, first + 3))
-        .then(text::first_wrong(Set::Capitals, s, 0, n, first + 4))
+    let first = 100 * u16::from(kind);
+    text::present(0, s.len(), first + 1)?;
+    text::length_is(s, n, first + 2)?;
+    text::first_wrong(Set::Letters, s, 0, n, first + 3)?;
+    text::first_wrong(Set::Capitals, s, 0, n, first + 4)
 }
 
-// The answer of a code that is well spelt.
-pub fn by_list(kind: u8, listed: bool) -> Answer
-    ensures { result ≡ must listed NotListed (check kind 5) or_accept 0 }
+// A code's bytes packed into one number, the first the highest, so that one comparison compares a whole code. A code whose number has more
+// than 32 bits has none.
+fn pack(code: &[u8]) -> Option<u32>
+    ensures { result ≡ packed_fit code.now }
 {
-    if listed {
-        Answer::Accepted(0)
-    } else {
-        Answer::Refused(Reason::NotListed, 100 * kind as u32 + 5)
+    let mut n: u32 = 0;
+    for b in code {
+        n = n.checked_mul(256)?.checked_add(u32::from(*b))?;
+    }
+    Some(n)
+}
+
+// Whether a code stands in a table of packed codes.
+#[tactic(auto, using(crate::proofs::Laws::past_table), unfolding(crate::specs::Inner::packed_fit))]
+fn listed(table: &[u32], code: &[u8]) -> bool
+    ensures { result ≡ among table.now (packed code.now) }
+{
+    match pack(code) {
+        Some(n) => table.contains(&n),
+        None => false,
     }
 }
 
-// Three bytes packed into one number, the first the highest, so that one comparison compares a whole code. A code of two bytes has 0 for
-// the first.
-pub fn pack(a: u8, b: u8, c: u8) -> u32
-    ensures { result ≡ 65536 * a + 256 * b + c }
+// The rule of a kind whose codes have n bytes and stand in a table, each packed.
+#[tactic(auto, using(answer::proofs::Laws::steps), unfolding(crate::specs::Inner::table_rule))]
+pub fn validate_code(kind: u8, n: usize, table: &[u32], s: &[u8]) -> Answer
+    ensures { result ≡ table_rule kind n table.now s.now }
 {
-    65536 * a as u32 + 256 * b as u32 + c as u32
-}
-
-// Whether a packed code stands in a table of them.
-pub fn among(table: &[u32], code: u32) -> bool
-    ensures { result ≡ among table.now code }
-{
-    let mut i = 0;
-    while i < table.len() {
-        if table[i] == code {
-            return true;
-        }
-        i += 1;
-    }
-    false
+    well_spelt(kind, n, s)?;
+    must(
+        listed(table, s),
+        Reason::NotListed,
+        100 * u32::from(kind) + 5,
+    )?;
+    Ok(0)
 }

@@ -1,14 +1,13 @@
 // Kind 7: a country's code.
 #![tactic(auto)]
 
-ghost use Rattle.std.specs.Prelude.{◌≡◌, map};
-ghost use Rattle.codes.specs.Codes.{packed, among};
-ghost use Rattle.country.specs.Country.{countries, country_answer};
+ghost use Rattle.std.specs.Prelude.{◌≡◌};
+ghost use Rattle.country.specs.Country.{country_answer};
 
-use answer::{Answer, Step};
+use answer::Answer;
 
 // The codes in the list's order, each packed into one number (codes::pack).
-const COUNTRIES: [u32; 250] = [
+static COUNTRIES: [u32; 250] = [
     0x4144, 0x4145, 0x4146, 0x4147, 0x4149, 0x414C, 0x414D, 0x414F, 0x4151, 0x4152, 0x4153, 0x4154,
     0x4155, 0x4157, 0x4158, 0x415A, 0x4241, 0x4242, 0x4244, 0x4245, 0x4246, 0x4247, 0x4248, 0x4249,
     0x424A, 0x424C, 0x424D, 0x424E, 0x424F, 0x4251, 0x4252, 0x4253, 0x4254, 0x4256, 0x4257, 0x4259,
@@ -32,20 +31,8 @@ const COUNTRIES: [u32; 250] = [
     0x564E, 0x5655, 0x5746, 0x5753, 0x5945, 0x5954, 0x5A41, 0x5A4D, 0x5A57, 0x584B,
 ];
 
-// The table is copied to a local before the search. The compiler builds a constant array anew on the stack wherever the code indexes it, which
-// in the search's loop would be once a turn.
-fn listed(code: u32) -> bool
-    ensures { result ≡ among (map packed countries) code }
-{
-    let table = COUNTRIES;
-    codes::among(&table, code)
-}
-
 pub fn validate_country(s: &[u8]) -> Answer
     ensures { result ≡ country_answer s.now }
 {
-    match codes::well_spelt(7, 2, s) {
-        Step::Pass => codes::by_list(7, listed(codes::pack(0, text::at(s, 0), text::at(s, 1)))),
-        Step::Stop(reason, check) => Answer::Refused(reason, check),
-    }
+    codes::validate_code(7, 2, &COUNTRIES, s)
 }

@@ -1,14 +1,13 @@
 // Kind 8: a currency's code.
 #![tactic(auto)]
 
-ghost use Rattle.std.specs.Prelude.{◌≡◌, map};
-ghost use Rattle.codes.specs.Codes.{packed, among};
-ghost use Rattle.currency.specs.Currency.{currencies, currency_answer};
+ghost use Rattle.std.specs.Prelude.{◌≡◌};
+ghost use Rattle.currency.specs.Currency.{currency_answer};
 
-use answer::{Answer, Step};
+use answer::Answer;
 
 // The codes in the list's order, each packed into one number (codes::pack).
-const CURRENCIES: [u32; 183] = [
+static CURRENCIES: [u32; 183] = [
     0x414544, 0x41464E, 0x414C4C, 0x414D44, 0x414E47, 0x414F41, 0x415253, 0x415544, 0x415747,
     0x415A4E, 0x42414D, 0x424244, 0x424454, 0x42474E, 0x424844, 0x424D44, 0x424E44, 0x424F42,
     0x424F56, 0x42524C, 0x425344, 0x42544E, 0x425750, 0x42594E, 0x425A44, 0x434144, 0x434446,
@@ -32,23 +31,8 @@ const CURRENCIES: [u32; 183] = [
     0x564546, 0x4D524F, 0x425952,
 ];
 
-// The table is copied to a local before the search. The compiler builds a constant array anew on the stack wherever the code indexes it, which
-// in the search's loop would be once a turn.
-fn listed(code: u32) -> bool
-    ensures { result ≡ among (map packed currencies) code }
-{
-    let table = CURRENCIES;
-    codes::among(&table, code)
-}
-
 pub fn validate_currency(s: &[u8]) -> Answer
     ensures { result ≡ currency_answer s.now }
 {
-    match codes::well_spelt(8, 3, s) {
-        Step::Pass => codes::by_list(
-            8,
-            listed(codes::pack(text::at(s, 0), text::at(s, 1), text::at(s, 2))),
-        ),
-        Step::Stop(reason, check) => Answer::Refused(reason, check),
-    }
+    codes::validate_code(8, 3, &CURRENCIES, s)
 }
