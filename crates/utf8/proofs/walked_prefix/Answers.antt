@@ -9,25 +9,25 @@ pub loop-at-init : goal.loop-at-init
 unfolding valid_prefix
 loop-at-init c = (omega arith, omega arith)
 
-pub overflow_add-at-in-Char : goal.overflow_add-at-in-Char
-overflow_add-at-in-Char c =
-    let here = stands _ _ _ _ c.loop-at.invariant.0 (sym c.by_row.ensures ∙ c.in-Char.is) in
+pub overflow_add-at-in-Some : goal.overflow_add-at-in-Some
+overflow_add-at-in-Some c =
+    let here = stands _ _ _ _ c.loop-at.invariant.0 (sym c.by_row.ensures ∙ c.in-Some.is) in
     omega (arith, here)
 
 pub loop-at-smaller : goal.loop-at-smaller
 loop-at-smaller c =
-    let here = stands _ _ _ _ c.loop-at.invariant.0 (sym c.by_row.ensures ∙ c.in-Char.is) in
+    let here = stands _ _ _ _ c.loop-at.invariant.0 (sym c.by_row.ensures ∙ c.in-Some.is) in
     omega (arith, here)
 
 pub loop-at-preserved : goal.loop-at-preserved
 unfolding widths
 loop-at-preserved c =
-    let here = stands _ _ _ _ c.loop-at.invariant.0 (sym c.by_row.ensures ∙ c.in-Char.is) in
+    let here = stands _ _ _ _ c.loop-at.invariant.0 (sym c.by_row.ensures ∙ c.in-Some.is) in
     omega (arith, here, ap widths here.first)
 
-pub returns-in-Bad : goal.returns-in-Bad
+pub returns-in-None : goal.returns-in-None
 unfolding widths
-returns-in-Bad c = omega (arith, ap widths (chars_bad _ (sym c.by_row.ensures ∙ c.in-Bad.is)))
+returns-in-None c = omega (arith, ap widths (chars_bad _ (sym c.by_row.ensures ∙ c.in-None.is)))
 
 pub returns : goal.returns
 unfolding widths
