@@ -164,10 +164,6 @@ no_front s at h = rw (drop_of_length-le s h)
 pub ascii_stands : (s : List ℕ) (at : ℕ) → at < length s → get_or s at 0 < 128 → Stands s at (get_or s at 0) 1
 ascii_stands s at h small = stands s at (get_or s at 0) 1 (omega arith) (sym (ascii-at s at (get_or s at 0) (get_or s at 0) h refl small refl))
 
--- the same, as `decode` and `walked_prefix` meet it
+-- the same, as `decode` meets it
 pub ascii_front : (s : List ℕ) (at v : ℕ) → at < length s → get_or s at 0 < 128 → v ≡ get_or s at 0 → Some (ch v 1) ≡ front (drop at s)
 ascii_front s at v h small e = ascii-at s at (get_or s at 0) v h refl small e
-
-pub ascii_widths : (s : List ℕ) (at : ℕ) → at < length s → get_or s at 0 < 128 → widths (chars (drop at s)) ≡ 1 + widths (chars (drop (at + 1) s))
-unfolding widths
-ascii_widths s at h small = ap widths (ascii_stands s at h small).first

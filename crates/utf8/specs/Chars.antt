@@ -1,7 +1,8 @@
 -- RFC 3629, section 4, UTF8-octets = *( UTF8-char ): the characters of a text, up to the first place where none starts.
-use Rattle.std.specs.Prelude.{ℕ, zero, suc, pred, ◌+◌, Bool, true, ◌&&◌, List, [], ◌∷◌, Option, Some, None, ltb}
+use Rattle.std.specs.Prelude.{ℕ, zero, suc, pred, ◌+◌, Bool, true, ◌&&◌, List, [], ◌∷◌, Option, Some, None, ltb, drop}
 use Rattle.utf8.specs.Rfc3629.{front}
 use Rattle.utf8.specs.declared.Char.{Char}
+use Rattle.utf8.specs.declared.Walk.{Walk}
 
 -- the character that was found, and then those past its other bytes; its first is passed already
 abbrev pub then : Option Char → (ℕ → List Char) → List Char
@@ -21,6 +22,15 @@ chars s = chars_past 0 s
 unfoldable pub widths : List Char → ℕ
 widths [] = 0
 widths (c ∷ cs) = c.width + widths cs
+
+-- characters that follow each other from a place on, each with its place
+unfoldable pub placed : ℕ → List Char → List (ℕ × Char)
+placed at [] = []
+placed at (c ∷ cs) = (at, c) ∷ placed (at + c.width) cs
+
+-- those that a walk over a text has left
+unfoldable pub left : Walk → List (ℕ × Char)
+left w = placed w.at (chars (drop w.at w.text.now))
 
 -- the length of the longest well-formed prefix
 unfoldable pub valid_prefix : List ℕ → ℕ

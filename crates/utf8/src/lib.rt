@@ -3,7 +3,8 @@
 
 ghost use Rattle.std.specs.Prelude.{◌≡◌, ◌+◌, ◌*◌, ◌%◌, ◌^◌, ◌<◌, length, drop};
 ghost use Rattle.utf8.specs.Rfc3629.{lead, lead_of, needed, well_formed, scalar_of, front};
-ghost use Rattle.utf8.specs.Chars.{ascii, valid_prefix};
+ghost use Rattle.std.specs.Iterator.{YieldsFirst, item_count};
+ghost use Rattle.utf8.specs.Chars.{chars, placed, left, ascii, valid_prefix};
 ghost use Rattle.utf8.specs.Space.{white_space};
 
 // A character: its scalar value, and its width in bytes, 1 to 4.
@@ -147,22 +148,46 @@ pub fn is_ascii(s: &[u8]) -> bool
     s.is_ascii()
 }
 
-// The length of the longest well-formed prefix, found one character after the other. An ASCII byte is a character by itself, and needs no look
-// at the table.
-#[tactic(auto, using(crate::proofs::Chars::ascii_widths))]
+// A walk over the characters of a text, each with its place, up to the first place where none starts.
+#[derive(Drop)]
+pub struct Walk<'a> {
+    text: &'a [u8],
+    at: usize,
+}
+
+impl<'a> Walk<'a> {
+    #[tactic(auto, unfolding(crate::specs::Chars::left))]
+    pub fn new(text: &'a [u8]) -> Walk<'a>
+        ensures { left result ≡ placed 0 (chars text.now) }
+    {
+        Walk { text, at: 0 }
+    }
+}
+
+impl<'a> Iterator for Walk<'a> {
+    type Item = (usize, Char);
+
+    ghost next_gives = { YieldsFirst left };
+
+    ghost remaining = { item_count left };
+
+    #[tactic(auto, using(crate::proofs::Walks::placed_none, crate::proofs::Walks::placed_some, crate::proofs::Walks::char_inside), unfolding(crate::specs::Chars::left))]
+    fn next(&mut self) -> Option<(usize, Char)> {
+        let at = self.at;
+        let c = decode(self.text, at)?;
+        self.at = at + c.width;
+        Some((at, c))
+    }
+}
+
+// The length of the longest well-formed prefix, found one character after the other.
+#[tactic(auto, using(crate::proofs::Walks::room_start, crate::proofs::Walks::room_more, crate::proofs::Walks::room_none))]
 fn walked_prefix(s: &[u8]) -> usize
     ensures { result ≡ valid_prefix s.now }
 {
     let mut at = 0;
-    while at < s.len() {
-        if s[at] < 128 {
-            at += 1;
-            continue;
-        }
-        match by_row(s, at) {
-            Some(c) => at += c.width,
-            None => return at,
-        }
+    for (_, c) in Walk::new(s) {
+        at += c.width;
     }
     at
 }
