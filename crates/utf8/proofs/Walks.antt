@@ -5,7 +5,7 @@ use mathlib.Core.List.{List, [], ◌∷◌}
 use native.Mathlib.Omega.{arith}
 use lib.ListN.{length, drop, length-drop}
 use lib.Seq.{drop-drop}
-use Rattle.std.specs.Prelude.{Some, None}
+use Rattle.std.specs.Prelude.{Some, None, fold, sum_by}
 use Rattle.utf8.specs.Rfc3629.{front}
 use Rattle.utf8.specs.Chars.{chars, placed, widths, valid_prefix}
 use Rattle.utf8.specs.declared.Char.{Char}
@@ -25,27 +25,15 @@ placed_some s at c e = rw (chars_char (drop at s) c.scalar c.width (sym e), drop
 pub char_inside : (s : List ℕ) (at : ℕ) (c : Char) → Some c ≡ front (drop at s) → at + c.width ≤ length s
 char_inside s at c e = let p = front-width (drop at s) c.scalar c.width (sym e) in omega (arith, length-drop at s)
 
--- the bytes that characters with their places take
-unfoldable pub room : List (ℕ × Char) → ℕ
-room [] = 0
-room (p ∷ ps) = p.1.width + room ps
+-- the widths of those that are left of a whole text
+widths_placed : (n at : ℕ) (cs : List Char) → fold (λ a p. a + p.1.width) n (placed at cs) ≡ n + widths cs
+unfolding placed widths
+widths_placed n at [] = omega arith
+widths_placed n at (c ∷ cs) = widths_placed (n + c.width) (at + c.width) cs ∙ omega arith
 
-room_placed : (at : ℕ) (cs : List Char) → room (placed at cs) ≡ widths cs
-unfolding room placed widths
-room_placed at [] = refl
-room_placed at (c ∷ cs) = ap (λ (n : ℕ). c.width + n) (room_placed (at + c.width) cs)
-
-pub room_start : (ps : List (ℕ × Char)) (s : List ℕ) → ps ≡ placed 0 (chars s) → room ps ≡ valid_prefix s
+pub widths_all : (ps : List (ℕ × Char)) (s : List ℕ) → ps ≡ placed 0 (chars s) → sum_by (λ p. p.1.width) ps ≡ valid_prefix s
 unfolding valid_prefix
-room_start ps s e = rw e (room_placed 0 (chars s))
-
-pub room_more : (ps qs : List (ℕ × Char)) (p : ℕ × Char) → ps ≡ p ∷ qs → room ps ≡ p.1.width + room qs
-unfolding room
-room_more ps qs p e = rw e
-
-pub room_none : (ps : List (ℕ × Char)) → ps ≡ [] → room ps ≡ 0
-unfolding room
-room_none ps e = rw e
+widths_all ps s e = rw e (widths_placed 0 0 (chars s) ∙ omega arith)
 
 pub prefix_inside : (s : List ℕ) → valid_prefix s ≤ length s
 prefix_inside s = (longest s).inside

@@ -181,15 +181,10 @@ impl<'a> Iterator for Walk<'a> {
 }
 
 // The length of the longest well-formed prefix, found one character after the other.
-#[tactic(auto, using(crate::proofs::Walks::room_start, crate::proofs::Walks::room_more, crate::proofs::Walks::room_none))]
 fn walked_prefix(s: &[u8]) -> usize
     ensures { result ≡ valid_prefix s.now }
 {
-    let mut at = 0;
-    for (_, c) in Walk::new(s) {
-        at += c.width;
-    }
-    at
+    Walk::new(s).map(|(_, c)| c.width).sum()
 }
 
 // The length of the longest well-formed prefix. Most fields are ASCII, and so well-formed as a whole.
