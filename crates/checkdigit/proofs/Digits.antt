@@ -95,9 +95,9 @@ pub continued-append : (r : ℕ) (s t : List ℕ) → continued (continued r s) 
 unfolding continued
 continued-append r s t = reduced (number_after r s) t ∙ ap (λ (n : ℕ). n % 97) (after-append r s t)
 
-pub continued-none : (r : ℕ) → r < 97 → r ≡ continued r []
+pub continued_none : (r : ℕ) → r < 97 → r ≡ continued r []
 unfolding continued number_after expand decimal
-continued-none r h = omega arith
+continued_none r h = omega arith
 
 pub from_nothing : (t : List ℕ) → continued 0 t ≡ remainder_of t
 unfolding continued number_after remainder_of
@@ -116,13 +116,6 @@ more r t i x n h p q =
 pub after_one : (n b : ℕ) → n * 10 ^ count b + character_value b ≡ number_after n (b ∷ [])
 unfolding number_after expand
 after_one n b = simp (append-nil, char_value)
-
--- the room for a character's digits
-pub room_digit : (b : ℕ) → is_digit b ≡ true → 10 ≡ 10 ^ count b
-room_digit b d = rw (char_count b, d)
-
-pub room-other : (b : ℕ) → is_digit b ≡ false → 100 ≡ 10 ^ count b
-room-other b d = rw (char_count b, d)
 
 pub remainder_low : (t : List ℕ) → remainder_of t < 97
 unfolding remainder_of

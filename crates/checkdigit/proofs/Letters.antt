@@ -29,8 +29,8 @@ module _ (b : ℕ) (byte : b < 256) where
       go true = omega arith
       go false = byte_value b byte
 
-  pub after-most : (n : ℕ) → number_after n (b ∷ []) < n * 100 + 256
-  after-most n = rw (← after_one n b, char_count b) (go (is_digit b))
+  pub after_most : (n : ℕ) → number_after n (b ∷ []) < n * 100 + 256
+  after_most n = rw (← after_one n b, char_count b) (go (is_digit b))
     where
       go : (d : Bool) → n * 10 ^ cond d 1 2 + character_value b < n * 100 + 256
       go true = omega (arith, value-most)

@@ -9,29 +9,25 @@ ghost use Rattle.checkdigit.specs.RemainderStep.{remainder_step};
 
 use answer::{Reason, Step, must};
 
-fn wide(b: u8) -> u64
-    ensures { result ≡ b }
-{
-    b as u64
-}
-
 #[tactic(auto, unfolding(crate::specs::Letter::letter_value))]
 fn letter_value(b: u8) -> u64
     ensures { result ≡ letter_value b }
 {
-    if b < 55 { 0 } else { wide(b - 55) }
+    u64::from(b.saturating_sub(55))
 }
 
+#[tactic(auto, unfolding(crate::specs::Sum::character_value, text::specs::Class::class_of))]
 fn value(b: u8) -> u64
     ensures { result ≡ character_value b }
 {
     match b {
-        b'0'..=b'9' => wide(b - 48),
+        b'0'..=b'9' => u64::from(b - b'0'),
         _ => letter_value(b),
     }
 }
 
 // What a number is multiplied by to make room for a character's digits: one for a digit, two for any other character.
+#[tactic(auto, unfolding(crate::specs::Sum::character_digits, text::specs::Class::class_of))]
 fn scale(b: u8) -> u64
     ensures { result ≡ 10 ^ length (character_digits b) }
 {
@@ -43,6 +39,7 @@ fn scale(b: u8) -> u64
 
 // The number that n's decimal digits write, with those of a character's value after them. What the character adds and what it multiplies by
 // are found from the character alone, so that the processor has them ready before n, the result of the turn before, is known.
+#[tactic(auto, using(crate::proofs::Digits::after_one, crate::proofs::Letters::after_most))]
 fn with_character(n: u64, b: u8) -> u64
     requires { n < 10 ^ 17 }
     ensures { result ≡ number_after n (b ∷ []) }
@@ -59,20 +56,20 @@ fn small_remainder(n: u64) -> u64
 }
 
 // The same as mod97 for an r that is a remainder already, one character at a time.
+#[tactic(auto, using(crate::proofs::Digits::continued_none, crate::proofs::Digits::more, crate::proofs::Letters::after_most))]
 fn onward(r: u64, t: &[u8]) -> u64
     requires { r < 97 }
     ensures { Remains (continued r t.now) result }
 {
     let mut remainder = r;
-    let mut i = 0;
-    while i < t.len() {
-        remainder = small_remainder(with_character(remainder, t[i]));
-        i += 1;
+    for b in t {
+        remainder = small_remainder(with_character(remainder, *b));
     }
     remainder
 }
 
 // The remainder of the number that r's decimal digits write, with the text's after them: a sum that was begun goes on.
+#[tactic(auto, using(crate::proofs::Digits::reduced))]
 pub fn mod97(r: u64, t: &[u8]) -> u64
     ensures { Remains (continued r t.now) result }
 {
@@ -80,6 +77,7 @@ pub fn mod97(r: u64, t: &[u8]) -> u64
 }
 
 // The remainder of the text as it stands, which is an LEI's.
+#[tactic(auto, using(crate::proofs::Digits::from_nothing))]
 pub fn remainder(t: &[u8]) -> u64
     ensures { Remains (remainder_of t.now) result }
 {
@@ -87,6 +85,7 @@ pub fn remainder(t: &[u8]) -> u64
 }
 
 // The remainder of the text with its first four characters moved to the end, which is an IBAN's. A text of fewer than four stays as it is.
+#[tactic(auto, using(crate::proofs::Iban::short_sum, crate::proofs::Iban::moved_sum))]
 pub fn iban_remainder(t: &[u8]) -> u64
     ensures { Remains (iban_remainder t.now) result }
 {

@@ -1,54 +1,57 @@
--- Laws of the electronic format: what a character that stands at a place of a field adds to it, and the places of its characters.
-use Prim.Native.Nat.{ℕ, zero, suc, ◌+◌, ◌-◌, ◌<◌}
-use mathlib.Core.Path.{◌≡◌, refl, ap}
-use mathlib.Core.Bool.{true, false}
+-- Laws of the electronic format: what a walk over a field's characters keeps for it, and the places of its characters.
+use Prim.Native.Nat.{ℕ, zero, suc, ◌+◌}
+use mathlib.Core.Path.{◌≡◌, refl, sym, ap, ◌∙◌}
+use mathlib.Core.Bool.{Bool, true, false, cond, not}
 use mathlib.Core.List.{List, [], ◌∷◌}
-use native.Mathlib.Omega.{arith}
-use lib.ListN.{length, drop, length-map}
-use Rattle.utf8.specs.Chars.{chars}
+use lib.ListN.{length, length-map}
+use Rattle.std.specs.Prelude.{Option, Some, None, filter, slice_get, option_map}
+use Rattle.utf8.specs.Chars.{chars, placed}
 use Rattle.utf8.specs.Space.{white_space}
-use Rattle.utf8.proofs.Chars.{Stands}
+use Rattle.utf8.specs.declared.Char.{Char}
 use Rattle.iban.specs.Electronic.{Character, electronic_from, electronic, text_of, place_in}
 
--- the characters from a place of the field on
-abbrev pub electronic_at : List ℕ → ℕ → List Character
-electronic_at s at = electronic_from at (chars (drop at s))
+-- a character with its place that is no blank
+abbrev pub black : ℕ × Char → Bool
+black p = not (white_space p.1.scalar)
 
-module _ (s : List ℕ) (at c w : ℕ) (p : Stands s at c w) where
-  pub electronic_blank : white_space c ≡ true → electronic_at s at ≡ electronic_at s (at + w)
-  unfolding electronic_from
-  electronic_blank e = rw (p.first, e)
+-- of characters with their places, those that are no blank
+abbrev pub kept : List (ℕ × Char) → List Character
+kept [] = []
+kept (p ∷ ps) = cond (white_space p.1.scalar) (kept ps) (record { place = p.0; scalar = p.1.scalar } ∷ kept ps)
 
-  pub electronic_char : white_space c ≡ false → electronic_at s at ≡ record { place = at; scalar = c } ∷ electronic_at s (at + w)
-  unfolding electronic_from
-  electronic_char e = rw (p.first, e)
+kept_placed : (at : ℕ) (cs : List Char) → electronic_from at cs ≡ kept (placed at cs)
+unfolding electronic_from placed
+kept_placed at [] = refl
+kept_placed at (c ∷ cs) = rw (kept_placed (at + c.width) cs)
 
-pub electronic-end : (s : List ℕ) (at : ℕ) → chars (drop at s) ≡ [] → electronic_at s at ≡ []
-unfolding electronic_from
-electronic-end s at e = rw e
-
-pub electronic-start : (s : List ℕ) → electronic s ≡ electronic_at s 0
+pub kept_all : (s : List ℕ) → electronic s ≡ kept (placed 0 (chars s))
 unfolding electronic
-electronic-start s = refl
+kept_all s = kept_placed 0 (chars s)
 
 pub length-text : (l : List Character) → length (text_of l) ≡ length l
 unfolding text_of
 length-text l = length-map l (λ c. c.scalar)
 
--- the place of the k-th character from a place of the field on
-module _ (s : List ℕ) (at c w : ℕ) (p : Stands s at c w) where
-  pub place_blank : (k : ℕ) → white_space c ≡ true → place_in k (electronic_at s at) ≡ place_in k (electronic_at s (at + w))
-  place_blank k e = ap (place_in k) (electronic_blank s at c w p e)
+-- the place that a search of the k-th of them finds
+abbrev pub place_found : Option (ℕ × Char) → ℕ
+place_found None = 0
+place_found (Some p) = p.0
 
-  pub place_here : white_space c ≡ false → place_in 0 (electronic_at s at) ≡ at
-  unfolding place_in
-  place_here e = rw (electronic_char s at c w p e)
-
-  pub place-next : (k : ℕ) → 0 < k → white_space c ≡ false → place_in k (electronic_at s at) ≡ place_in (k - 1) (electronic_at s (at + w))
-  unfolding place_in
-  place-next zero h e = absurd (omega arith)
-  place-next (suc k) h e = let q : suc k - 1 ≡ k = omega arith in rw (electronic_char s at c w p e, q)
-
-pub place_none : (k : ℕ) (s : List ℕ) (at : ℕ) → chars (drop at s) ≡ [] → place_in k (electronic_at s at) ≡ 0
+pub place_nth : (k : ℕ) (ps : List (ℕ × Char)) → place_in k (kept ps) ≡ place_found (slice_get (filter black ps) k)
 unfolding place_in
-place_none k s at e = rw (electronic-end s at e)
+place_nth k [] = refl
+place_nth k (p ∷ ps) = go (white_space p.1.scalar) k (λ k. place_nth k ps)
+  where
+    go : (t : Bool) (k : ℕ) → ((k : ℕ) → place_in k (kept ps) ≡ place_found (slice_get (filter black ps) k)) → place_in k (cond t (kept ps) (record { place = p.0; scalar = p.1.scalar } ∷ kept ps))
+        ≡ place_found (slice_get (cond (not t) (p ∷ filter black ps) (filter black ps)) k)
+    go true k f = f k
+    go false zero f = refl
+    go false (suc k) f = f k
+
+pub place_of_nth : (s : List ℕ) (k : ℕ) (ps : List (ℕ × Char)) (r : Option (ℕ × Char)) (n : ℕ) → ps ≡ placed 0 (chars s)
+    → option_map (λ p. p) r ≡ slice_get (filter black ps) k → n ≡ place_found r → n ≡ place_in k (electronic s)
+place_of_nth s k ps r n p e f = f ∙ ap place_found (same r) ∙ ap place_found e ∙ sym (place_nth k ps) ∙ ap (place_in k) (ap kept p ∙ sym (kept_all s))
+  where
+    same : (r : Option (ℕ × Char)) → r ≡ option_map (λ p. p) r
+    same None = refl
+    same (Some x) = refl

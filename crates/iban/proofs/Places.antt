@@ -12,26 +12,17 @@ use Rattle.answer.specs.Result.{Refused, Step, Pass, Stop}
 use Rattle.answer.specs.declared.Reason.{Reason}
 use Rattle.answer.specs.declared.Reason.TheVariants.{Wrong}
 use Rattle.text.proofs.Near.{Near, Small, Short, near_pass, near_at, near_must, near_then, nears}
-use Rattle.utf8.specs.Chars.{Ch, then, chars_past, chars, widths, valid_prefix}
+use Rattle.utf8.specs.Chars.{then, chars_past, chars, widths, valid_prefix}
 use Rattle.utf8.specs.Rfc3629.{front}
 use Rattle.utf8.specs.Space.{white_space}
-use Rattle.utf8.specs.declared.Decoded.{Decoded}
-use Rattle.utf8.specs.declared.Decoded.TheVariants.{Char, Bad}
+use Rattle.std.specs.Prelude.{Option, Some, None}
+use Rattle.utf8.specs.declared.Char.{Char}
 use Rattle.utf8.proofs.Promises.{longest}
+use Rattle.utf8.proofs.Walks.{few_chars}
 use Rattle.checkdigit.proofs.Places.{iban_remainder_near}
 use Rattle.iban.specs.Electronic.{Character, electronic_from, electronic, electronic_text, place_in}
 use Rattle.iban.specs.Iban.{all_ascii, ascii_step, count_step, class_steps, reason_in, step_in, iban_characters, iban_answer}
 use Rattle.iban.proofs.Electronics.{length-text}
-
-few_chars : (k : ℕ) (s : List ℕ) → length (chars_past k s) ≤ length s
-unfolding chars_past
-few_chars k [] = omega arith
-few_chars zero (a ∷ s) = go (front (a ∷ s)) (λ k. few_chars k s)
-  where
-    go : (d : Decoded) → ((k : ℕ) → length (chars_past k s) ≤ length s) → length (then d (λ k. chars_past k s)) ≤ suc (length s)
-    go Bad f = omega arith
-    go (Char c w) f = omega (arith, f (pred w))
-few_chars (suc k) (a ∷ s) = omega (arith, few_chars k s)
 
 -- each place fits
 abbrev Placed : List Character → Type 0
@@ -39,7 +30,7 @@ Placed [] = Unit {0}
 Placed (c ∷ l) = (c.place < 2 ^ 16) × Placed l
 
 -- the characters that end before 2^16
-from_near : (at : ℕ) (cs : List Ch) → at + widths cs < 2 ^ 16 → (length (electronic_from at cs) ≤ length cs) × Placed (electronic_from at cs)
+from_near : (at : ℕ) (cs : List Char) → at + widths cs < 2 ^ 16 → (length (electronic_from at cs) ≤ length cs) × Placed (electronic_from at cs)
 unfolding electronic_from widths
 from_near at [] h = (omega arith, tt)
 from_near at (c ∷ cs) h = go (white_space c.scalar) (from_near (at + c.width) cs (omega arith))

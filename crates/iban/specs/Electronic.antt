@@ -1,7 +1,8 @@
 -- ISO 13616 has an IBAN in electronic format, without blanks, and in print format, with blanks. SCOPE, kind 1: "Drop every White_Space
 -- character": a field's characters in electronic format, each with its place in the field as it was lent.
 use Rattle.std.specs.Prelude.{ℕ, zero, suc, ◌+◌, List, [], ◌∷◌, map, cond}
-use Rattle.utf8.specs.Chars.{Ch, chars}
+use Rattle.utf8.specs.Chars.{chars}
+use Rattle.utf8.specs.declared.Char.{Char}
 use Rattle.utf8.specs.Space.{white_space}
 
 -- a character: the place of its first byte in the lent field, and its scalar value
@@ -10,7 +11,7 @@ pub record Character : Type 0 where
   pub scalar : ℕ
 
 -- of characters that start at a place, those that are no blank
-unfoldable pub electronic_from : ℕ → List Ch → List Character
+unfoldable pub electronic_from : ℕ → List Char → List Character
 electronic_from at [] = []
 electronic_from at (c ∷ cs) =
     cond (white_space c.scalar) (electronic_from (at + c.width) cs) (record { place = at; scalar = c.scalar } ∷ electronic_from (at + c.width) cs)

@@ -12,7 +12,7 @@ ghost use Rattle.iban.specs.Inner.{Dropped};
 
 use answer::{Answer, Reason, Step};
 use text::Set;
-use utf8::Decoded;
+use utf8::Walk;
 
 // What every step but the remainder says of a field; and where all of them pass, the IBAN in electronic format, that is, without blanks: its
 // characters, their count, and zeros past the last of them.
@@ -33,6 +33,7 @@ pub fn zeros() -> [u8; 34]
 fn put(text: &mut [u8], count: usize, b: u8)
     ensures { text.new ≡ set text.old count b }
 {
+    // By its place, as `get_mut` leaves open what the text is where there is no room.
     if count < text.len() {
         text[count] = b;
     }
@@ -44,36 +45,25 @@ fn drop_blanks(s: &[u8]) -> Electronic
 {
     let mut text = zeros();
     let mut count = 0;
-    let mut at = 0;
-    while at < s.len() {
-        match utf8::decode(s, at) {
-            Decoded::Char { scalar, width } => {
-                if utf8::is_white_space(scalar) {
-                    at += width;
-                    continue;
-                }
-                if 128 <= scalar {
-                    let step = Step::Stop(Reason::Wrong { place: at }, 101);
-                    return Electronic { step, count, text };
-                }
-                put(&mut text, count, (scalar % 256) as u8);
-                count += 1;
-                at += width;
-            }
-            Decoded::Bad => {
-                let step = Step::Stop(Reason::Wrong { place: at }, 101);
-                return Electronic { step, count, text };
-            }
+    let mut end = 0;
+    for (place, c) in Walk::new(s) {
+        end += c.width;
+        if utf8::is_white_space(c.scalar) {
+            continue;
         }
+        if 128 <= c.scalar {
+            let step = Step::Stop(Reason::Wrong { place }, 101);
+            return Electronic { step, count, text };
+        }
+        put(&mut text, count, c.scalar as u8);
+        count += 1;
+    }
+    if end < s.len() {
+        let step = Step::Stop(Reason::Wrong { place: end }, 101);
+        return Electronic { step, count, text };
     }
     let step = Step::Pass;
     Electronic { step, count, text }
-}
-
-fn wide(b: u8) -> u32
-    ensures { result ≡ b }
-{
-    b as u32
 }
 
 // The same for a field of which every byte is ASCII: each is a character, so that nothing is decoded and nothing is refused.
@@ -83,16 +73,12 @@ fn drop_ascii_blanks(s: &[u8]) -> Electronic
 {
     let mut text = zeros();
     let mut count = 0;
-    let mut at = 0;
-    while at < s.len() {
-        let b = s[at];
-        if utf8::is_white_space(wide(b)) {
-            at += 1;
+    for b in s {
+        if utf8::is_white_space(u32::from(*b)) {
             continue;
         }
-        put(&mut text, count, b);
+        put(&mut text, count, *b);
         count += 1;
-        at += 1;
     }
     let step = Step::Pass;
     Electronic { step, count, text }
@@ -121,30 +107,10 @@ pub fn class_steps(t: &[u8]) -> Step
 fn place_of(s: &[u8], k: usize) -> usize
     ensures { result ≡ place_in k (electronic s.now) }
 {
-    let mut ahead = k;
-    let mut at = 0;
-    while at < s.len() {
-        match utf8::decode(s, at) {
-            Decoded::Char {
-                scalar: code,
-                width,
-            } => {
-                if utf8::is_white_space(code) {
-                    at += width;
-                    continue;
-                }
-                if ahead == 0 {
-                    return at;
-                }
-                ahead -= 1;
-                at += width;
-            }
-            Decoded::Bad => {
-                return 0;
-            }
-        }
-    }
-    0
+    Walk::new(s)
+        .filter(|(_, c)| !utf8::is_white_space(c.scalar))
+        .nth(k)
+        .map_or(0, |(place, _)| place)
 }
 
 // A class step counts places in the electronic format; its caller is told the place in the lent field, blanks included.

@@ -10,83 +10,13 @@ use lib.Bits.{bit_or, or_add_and, and_le_l, and_le_r, or_lt}
 use lib.Dec.{ltb, ltb→lt}
 use lib.ListN.{length, get_or, take, drop, take-append-drop, drop_of_length-le}
 use lib.Seq.{drop-cons, take-take, take-add}
+use Rattle.std.specs.Prelude.{IsAscii, MatchBool}
+use Rattle.std.specs.Str.{IsNotAscii}
 use Rattle.text.proofs.Ranges.{is_true, both_parts}
-use Rattle.utf8.specs.Chars.{Ch, ch, chars, chars_past, widths, valid_prefix, ascii}
+use Rattle.utf8.specs.declared.Char.{Char}
+use Rattle.utf8.specs.Rfc3629.{ch}
+use Rattle.utf8.specs.Chars.{chars, chars_past, widths, valid_prefix, ascii}
 use Rattle.utf8.proofs.Chars.{ascii-at, chars_char}
-
--- two numbers are below 128 where the bits of either one are
-bits_below : (a b : ℕ) → ltb (bit_or a b) 128 ≡ (ltb a 128 && ltb b 128)
-bits_below a b = go (ltb a 128) (ltb b 128) refl refl
-  where
-    least : a ≤ bit_or a b
-    least = omega (arith, or_add_and a b, and_le_r a b)
-
-    least_2 : b ≤ bit_or a b
-    least_2 = omega (arith, or_add_and a b, and_le_l a b)
-
-    go : (p q : Bool) → ltb a 128 ≡ p → ltb b 128 ≡ q → ltb (bit_or a b) 128 ≡ (p && q)
-    go true true e f = lt-ltb (bit_or a b) 128 (or_lt 7 a b (ltb-true a 128 e) (ltb-true b 128 f))
-    go true false e f = le-ltb (bit_or a b) 128 (omega (arith, least_2, ltb-false b 128 f))
-    go false q e f = le-ltb (bit_or a b) 128 (omega (arith, least, ltb-false a 128 e))
-
-both_assoc : (a b c : Bool) → ((a && b) && c) ≡ (a && (b && c))
-both_assoc true b c = refl
-both_assoc false b c = refl
-
-both_true : (a : Bool) → (a && true) ≡ a
-both_true true = refl
-both_true false = refl
-
--- the bits so far and the bytes that are left say whether a text is ASCII: one byte more, and none left
-pub ascii_more : (s : List ℕ) (i h : ℕ) → i < length s
-    → (ltb h 128 && ascii (drop i s)) ≡ (ltb (bit_or h (get_or s i 0)) 128 && ascii (drop (i + 1) s))
-unfolding ascii
-ascii_more s i h k =
-    rw (drop-cons s i 0 k, add-one i, bits_below h (get_or s i 0))
-    (sym (both_assoc (ltb h 128) (ltb (get_or s i 0) 128) (ascii (drop (suc i) s))))
-
-pub ascii-done : (s : List ℕ) (i h : ℕ) → length s ≤ i → (ltb h 128 && ascii (drop i s)) ≡ ltb h 128
-unfolding ascii
-ascii-done s i h k = rw (drop_of_length-le s k) (both_true (ltb h 128))
-
--- the bits of the k-th byte from a place on and of n more
-abbrev bits_at : List ℕ → ℕ → ℕ → ℕ → ℕ
-bits_at s i k zero = get_or s (i + k) 0
-bits_at s i k (suc n) = bit_or (get_or s (i + k) 0) (bits_at s i (suc k) n)
-
-bits_at_lem : (s : List ℕ) (i k n : ℕ) → i + k + suc n ≤ length s → ltb (bits_at s i k n) 128 ≡ ascii (take (suc n) (drop (i + k) s))
-unfolding ascii
-bits_at_lem s i k zero h = rw (drop-cons s (i + k) 0 (omega arith)) (sym (both_true (ltb (get_or s (i + k) 0) 128)))
-bits_at_lem s i k (suc n) h =
-    let e : i + suc k ≡ suc (i + k) = omega arith in
-    bits_below (get_or s (i + k) 0) (bits_at s i (suc k) n)
-    ∙ rw (bits_at_lem s i (suc k) n (omega arith), drop-cons s (i + k) 0 (omega arith), e)
-
-pub ascii_eight : (s : List ℕ) (i : ℕ) → i + 8 ≤ length s → ltb (bit_or (get_or s i 0) (bits_at s i 1 6)) 128 ≡ ascii (take 8 (drop i s))
-unfolding ascii
-ascii_eight s i h =
-    bits_below (get_or s i 0) (bits_at s i 1 6) ∙ rw (bits_at_lem s i 1 6 (omega arith), drop-cons s i 0 (omega arith), add-one i)
-
--- a text in two parts is ASCII where both are
-ascii_append : (s t : List ℕ) → ascii (s ++ t) ≡ (ascii s && ascii t)
-unfolding ascii
-ascii_append [] t = refl
-ascii_append (a ∷ s) t = rw (ascii_append s t) (sym (both_assoc (ltb a 128) (ascii s) (ascii t)))
-
-ascii_cut : (s : List ℕ) (i : ℕ) → ascii s ≡ (ascii (take i s) && ascii (drop i s))
-ascii_cut s i = ap ascii (sym (take-append-drop i s)) ∙ ascii_append (take i s) (drop i s)
-
--- where the bytes before a place are ASCII: so are those of a part more, or the text is not; and a last part that begins before it decides
-pub ascii-part : (s : List ℕ) (i n : ℕ) → ascii (take i s) ≡ true → ascii (take (i + n) s) ≡ ascii (take n (drop i s))
-ascii-part s i n e = ap ascii (take-add i n s) ∙ ascii_append (take i s) (take n (drop i s)) ∙ rw e
-
-pub ascii_not : (s : List ℕ) (i : ℕ) → ascii (take i s) ≡ false → ascii s ≡ false
-ascii_not s i e = ascii_cut s i ∙ rw e
-
-pub ascii-last : (s : List ℕ) (k i : ℕ) → k ≤ i → ascii (take i s) ≡ true → ascii s ≡ ascii (drop k s)
-ascii-last s k i h e =
-    let p = both_parts (ascii (take k (take i s))) (ascii (drop k (take i s))) (rw (← ascii_cut (take i s) k, e) tt) in
-    ascii_cut s k ∙ rw (← take-take k i s h, is_true (ascii (take k (take i s))) p.0)
 
 -- a text is ASCII exactly where every byte is below 128
 pub ascii_below : (s : List ℕ) → ascii s ≡ true → (i : ℕ) → i < length s → get_or s i 0 < 128
@@ -100,6 +30,21 @@ unfolding ascii
 below_ascii [] f = refl
 below_ascii (a ∷ s) f = rw (lt-ltb a 128 (f zero (omega arith))) (below_ascii s (λ i h. f (suc i) (omega arith)))
 
+never : (b : Bool) → false ≡ (b && false)
+never true = refl
+never false = refl
+
+not_ascii : (s : List ℕ) (i : ℕ) → 128 ≤ get_or s i 0 → false ≡ ascii s
+unfolding ascii
+not_ascii [] i h = absurd (omega arith)
+not_ascii (a ∷ s) zero h = rw (le-ltb a 128 h)
+not_ascii (a ∷ s) (suc i) h = rw (← not_ascii s i h) (never (ltb a 128))
+
+-- so it is where the library tests each byte
+pub by_bytes : (b : Bool) (s : List ℕ) → MatchBool b (IsAscii s) (IsNotAscii s) → b ≡ ascii s
+by_bytes true s h = sym (below_ascii s (λ i _. h i))
+by_bytes false s h = not_ascii s h.0 h.1
+
 -- the characters of an ASCII text are its bytes one by one
 pub ascii-chars : (s : List ℕ) → ascii s ≡ true → chars s ≡ map (λ b. ch b 1) s
 unfolding ascii chars_past
@@ -107,7 +52,7 @@ ascii-chars [] e = refl
 ascii-chars (a ∷ s) e =
     let p = both_parts (ltb a 128) (ascii s) (rw e tt) in
     chars_char (a ∷ s) a 1 (sym (ascii-at (a ∷ s) 0 a a (omega arith) refl (ltb→lt a 128 p.0) refl))
-    ∙ ap (λ (l : List Ch). ch a 1 ∷ l) (ascii-chars s (is_true (ascii s) p.1))
+    ∙ ap (λ (l : List Char). ch a 1 ∷ l) (ascii-chars s (is_true (ascii s) p.1))
 
 singles : (s : List ℕ) → widths (map (λ b. ch b 1) s) ≡ length s
 unfolding widths

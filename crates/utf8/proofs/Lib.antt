@@ -3,4 +3,5 @@ pub mod Chars
 pub mod Ascii
 pub mod Prefix
 pub mod Promises
+pub mod Walks
 pub mod Worked

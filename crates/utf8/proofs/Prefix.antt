@@ -9,13 +9,13 @@ use lib.Dec.{ltb, eqb}
 use lib.ListN.{length, get_or, take, drop, length-take, length-drop}
 use lib.Seq.{get_or-take, take-nil, take-add, drop_at, length-take-le}
 use Rattle.text.specs.Ranges.{within}
-use Rattle.utf8.specs.Rfc3629.{lead_of, needed, well_formed, scalar_of, char_of, front}
+use Rattle.utf8.specs.Rfc3629.{lead_of, needed, well_formed, scalar_of, ch, by_row, char_of, front}
 use Rattle.utf8.specs.Chars.{widths, valid_prefix}
 use Rattle.utf8.specs.Octets.{Octets}
 use Rattle.utf8.specs.Octets.Octets.{none, more}
 use Rattle.utf8.specs.declared.Lead.{Lead}
-use Rattle.utf8.specs.declared.Decoded.{Decoded}
-use Rattle.utf8.specs.declared.Decoded.TheVariants.{Char, Bad}
+use Rattle.utf8.specs.declared.Char.{Char}
+use Rattle.std.specs.Prelude.{Option, Some, None}
 use Rattle.utf8.proofs.Chars.{front-width, found, chars_char, chars_bad}
 
 -- only the bytes that the width asks for count
@@ -49,19 +49,24 @@ scalar-same w a b c d b' c' d' some p q r = go (eqb w 1) (eqb w 2) (eqb w 3) ref
         rw (p (omega arith), q (omega arith), r four)
 
 -- a character stays where bytes past it change
-char_same : (a b c d b' c' d' x w : ℕ) → char_of a b c d ≡ Char x w → 1 ≤ w → (2 ≤ w → b ≡ b') → (3 ≤ w → c ≡ c') → (4 ≤ w → d ≡ d')
-    → char_of a b' c' d' ≡ Char x w
-unfolding char_of
-char_same a b c d b' c' d' x w e some p q r =
-    let v = (lead_of a).width in
-    let same : v ≡ w = (found (well_formed (lead_of a) b c d) (scalar_of v a b c d) v x w e).1 in
+row_same : (r : Option Lead) (a b c d b' c' d' x w : ℕ) → by_row r a b c d ≡ Some (ch x w) → 1 ≤ w → (2 ≤ w → b ≡ b') → (3 ≤ w → c ≡ c')
+    → (4 ≤ w → d ≡ d') → by_row r a b' c' d' ≡ Some (ch x w)
+row_same None a b c d b' c' d' x w e some p q r = e
+row_same (Some l) a b c d b' c' d' x w e some p q r =
+    let v = l.width in
+    let same : v ≡ w = (found (well_formed l b c d) (scalar_of v a b c d) v x w e).1 in
     let p' : 2 ≤ v → b ≡ b' = λ h. p (omega arith) in
     let q' : 3 ≤ v → c ≡ c' = λ h. q (omega arith) in
     let r' : 4 ≤ v → d ≡ d' = λ h. r (omega arith) in
-    rw (← well_formed-same (lead_of a) b c d b' c' d' p' q' r', ← scalar-same v a b c d b' c' d' (omega arith) p' q' r') e
+    rw (← well_formed-same l b c d b' c' d' p' q' r', ← scalar-same v a b c d b' c' d' (omega arith) p' q' r') e
+
+char_same : (a b c d b' c' d' x w : ℕ) → char_of a b c d ≡ Some (ch x w) → 1 ≤ w → (2 ≤ w → b ≡ b') → (3 ≤ w → c ≡ c') → (4 ≤ w → d ≡ d')
+    → char_of a b' c' d' ≡ Some (ch x w)
+unfolding char_of
+char_same a b c d b' c' d' x w e some p q r = row_same (lead_of a) a b c d b' c' d' x w e some p q r
 
 -- the first character of a text is that of each prefix that has its bytes, and the other way round
-front-take : (n : ℕ) (s : List ℕ) (c w : ℕ) → w ≤ n → front s ≡ Char c w → front (take n s) ≡ Char c w
+front-take : (n : ℕ) (s : List ℕ) (c w : ℕ) → w ≤ n → front s ≡ Some (ch c w) → front (take n s) ≡ Some (ch c w)
 unfolding front
 front-take n [] c w h e = let z : ◌≡◌ {A = ℕ} 0 1 = cc in absurd (omega arith)
 front-take zero (a ∷ s) c w h e = let p = front-width (a ∷ s) c w e in absurd (omega arith)
@@ -70,7 +75,7 @@ front-take (suc n) (a ∷ s) c w h e =
     char_same a (get_or s 0 0) (get_or s 1 0) (get_or s 2 0) (get_or (take n s) 0 0) (get_or (take n s) 1 0) (get_or (take n s) 2 0) c w e p.0
     (λ k. sym (get_or-take n s 0 0 (omega arith))) (λ k. sym (get_or-take n s 1 0 (omega arith))) (λ k. sym (get_or-take n s 2 0 (omega arith)))
 
-front-whole : (n : ℕ) (s : List ℕ) (c w : ℕ) → front (take n s) ≡ Char c w → front s ≡ Char c w
+front-whole : (n : ℕ) (s : List ℕ) (c w : ℕ) → front (take n s) ≡ Some (ch c w) → front s ≡ Some (ch c w)
 unfolding front
 front-whole n [] c w e = rw take-nil at e
 front-whole zero (a ∷ s) c w e = let z : ◌≡◌ {A = ℕ} 0 1 = cc in absurd (omega arith)
@@ -83,11 +88,11 @@ front-whole (suc n) (a ∷ s) c w e =
 drop-take : (w v : ℕ) (s : List ℕ) → w ≤ length s → drop w (take (w + v) s) ≡ take v (drop w s)
 drop-take w v s h = rw (take-add w v s) (drop_at (take w s) (take v (drop w s)) w (length-take-le w s h))
 
-pub prefix_char : (s : List ℕ) (c w : ℕ) → front s ≡ Char c w → valid_prefix s ≡ w + valid_prefix (drop w s)
+pub prefix_char : (s : List ℕ) (c w : ℕ) → front s ≡ Some (ch c w) → valid_prefix s ≡ w + valid_prefix (drop w s)
 unfolding valid_prefix widths
 prefix_char s c w e = rw (chars_char s c w e)
 
-pub prefix_bad : (s : List ℕ) → front s ≡ Bad → valid_prefix s ≡ 0
+pub prefix_bad : (s : List ℕ) → front s ≡ None → valid_prefix s ≡ 0
 unfolding valid_prefix widths
 prefix_bad s e = rw (chars_bad s e)
 
@@ -95,9 +100,11 @@ prefix_bad s e = rw (chars_bad s e)
 abbrev pub Inside : List ℕ → Type 0
 Inside s = (valid_prefix s ≤ length s) × Octets (take (valid_prefix s) s)
 
-inside_by : (s : List ℕ) → ((c w : ℕ) → front s ≡ Char c w → Inside (drop w s)) → (d : Decoded) → front s ≡ d → Inside s
-inside_by s ih Bad e = rw (prefix_bad s e) (omega arith, none)
-inside_by s ih (Char c w) e =
+inside_by : (s : List ℕ) → ((c w : ℕ) → front s ≡ Some (ch c w) → Inside (drop w s)) → (d : Option Char) → front s ≡ d → Inside s
+inside_by s ih None e = rw (prefix_bad s e) (omega arith, none)
+inside_by s ih (Some x) e =
+    let c = x.scalar in
+    let w = x.width in
     let p = front-width s c w e in
     let v = valid_prefix (drop w s) in
     let r = ih c w e in
@@ -115,7 +122,7 @@ most (more t c w f o) s m e h =
     let p = front-width t c w f in
     let small : w ≤ m = omega (arith, ap length e, length-take m s) in
     let k = m - w in
-    let whole : front s ≡ Char c w = front-whole m s c w (rw e at f) in
+    let whole : front s ≡ Some (ch c w) = front-whole m s c w (rw e at f) in
     let split : m ≡ w + k = omega arith in
     let cut : drop w t ≡ take k (drop w s) = ap (drop w) (e ∙ ap (λ (n : ℕ). take n s) split) ∙ drop-take w k s (omega arith) in
     let r : k ≤ valid_prefix (drop w s) = most o (drop w s) k cut (omega (arith, length-drop w s)) in

@@ -3,19 +3,20 @@ use Prim.Native.Nat.{ℕ}
 use mathlib.Core.Path.{◌≡◌, refl}
 use mathlib.Core.Bool.{Bool, true, false}
 use mathlib.Core.List.{List, [], ◌∷◌, map}
-use Rattle.utf8.specs.Rfc3629.{lead_of, needed, well_formed, scalar_of, char_of, front}
-use Rattle.utf8.specs.Chars.{Ch, ch, chars_past, chars, widths, valid_prefix, ascii}
+use Rattle.utf8.specs.declared.Char.{Char}
+use Rattle.utf8.specs.Rfc3629.{lead_of, needed, well_formed, scalar_of, ch, char_of, front}
+use Rattle.utf8.specs.Chars.{chars_past, chars, widths, valid_prefix, ascii}
 use Rattle.utf8.specs.Space.{white_space}
 
 -- a text's characters, each with its width, and the length of its longest well-formed prefix
 record Read : Type 0 where
-  is : List Ch
+  is : List Char
   prefix : ℕ
 
 abbrev read : List ℕ → Read
 read s = record { is = chars s; prefix = valid_prefix s }
 
-abbrev says : List Ch → ℕ → Read
+abbrev says : List Char → ℕ → Read
 says cs n = record { is = cs; prefix = n }
 
 abbrev texts : List (List ℕ)

@@ -1,35 +1,36 @@
 -- RFC 3629, section 4, UTF8-octets = *( UTF8-char ): the characters of a text, up to the first place where none starts.
-use Rattle.std.specs.Prelude.{ℕ, zero, suc, pred, ◌+◌, Bool, true, ◌&&◌, List, [], ◌∷◌, ltb}
+use Rattle.std.specs.Prelude.{ℕ, zero, suc, pred, ◌+◌, Bool, true, ◌&&◌, List, [], ◌∷◌, Option, Some, None, ltb, drop}
 use Rattle.utf8.specs.Rfc3629.{front}
-use Rattle.utf8.specs.declared.Decoded.{Decoded}
-use Rattle.utf8.specs.declared.Decoded.TheVariants.{Char, Bad}
-
--- a character: its scalar value, and how many bytes it takes
-pub record Ch : Type 0 where
-  pub scalar : ℕ
-  pub width : ℕ
-
-abbrev pub ch : ℕ → ℕ → Ch
-ch c w = record { scalar = c; width = w }
+use Rattle.utf8.specs.declared.Char.{Char}
+use Rattle.utf8.specs.declared.Walk.{Walk}
 
 -- the character that was found, and then those past its other bytes; its first is passed already
-abbrev pub then : Decoded → (ℕ → List Ch) → List Ch
-then Bad rest = []
-then (Char c w) rest = ch c w ∷ rest (pred w)
+abbrev pub then : Option Char → (ℕ → List Char) → List Char
+then None rest = []
+then (Some c) rest = c ∷ rest (pred c.width)
 
 -- the characters of a text past its first k bytes
-unfoldable pub chars_past : ℕ → List ℕ → List Ch
+unfoldable pub chars_past : ℕ → List ℕ → List Char
 chars_past k [] = []
 chars_past zero (a ∷ s) = then (front (a ∷ s)) (λ k. chars_past k s)
 chars_past (suc k) (a ∷ s) = chars_past k s
 
-abbrev pub chars : List ℕ → List Ch
+abbrev pub chars : List ℕ → List Char
 chars s = chars_past 0 s
 
 -- how many bytes they take
-unfoldable pub widths : List Ch → ℕ
+unfoldable pub widths : List Char → ℕ
 widths [] = 0
 widths (c ∷ cs) = c.width + widths cs
+
+-- characters that follow each other from a place on, each with its place
+unfoldable pub placed : ℕ → List Char → List (ℕ × Char)
+placed at [] = []
+placed at (c ∷ cs) = (at, c) ∷ placed (at + c.width) cs
+
+-- those that a walk over a text has left
+unfoldable pub left : Walk → List (ℕ × Char)
+left w = placed w.at (chars (drop w.at w.text.now))
 
 -- the length of the longest well-formed prefix
 unfoldable pub valid_prefix : List ℕ → ℕ

@@ -1,11 +1,8 @@
--- `iban::drop_ascii_blanks`'s loop. The invariant: as in `drop_blanks`. The measure is what is left.
-use Prim.Native.Nat.{◌-◌}
-use lib.ListN.{length}
+-- `iban::drop_ascii_blanks`'s loop. The invariant: as in `drop_blanks`, where the characters that are left are those of the bytes from there on.
+use lib.ListN.{drop}
+use Rattle.utf8.specs.Chars.{chars, placed}
 use Rattle.iban.proofs.Blanks.{Dropping}
 use Rattle.iban.proofs.drop_ascii_blanks.Given as goal
 
-abbrev pub invariant-loop-at : goal.invariant-loop-at
-invariant-loop-at l = Dropping l.s l.at l.count l.text
-
-abbrev pub decreases-loop-at : goal.decreases-loop-at
-decreases-loop-at l = length l.s - l.at
+abbrev pub invariant-loop-b : goal.invariant-loop-b
+invariant-loop-b l = Dropping l.s (placed l.b-index (chars (drop l.b-index l.s))) l.b-index l.count l.text

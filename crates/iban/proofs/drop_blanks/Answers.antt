@@ -1,52 +1,34 @@
--- `iban::drop_blanks` meets its contract. The invariant: the text so far, and the characters from there on, are the field's in electronic format.
-use mathlib.Core.Path.{sym, ◌∙◌}
+-- `iban::drop_blanks` meets its contract. The invariant: the text so far, and the characters that are left, are the field's in electronic format.
+use mathlib.Core.Path.{sym, ap, ◌∙◌}
 use native.Mathlib.Omega.{arith}
-use Rattle.iban.proofs.Blanks.{starts, past_blank, past_char, beyond_ascii, no_character, ends}
-use Rattle.utf8.proofs.Chars.{stands, chars_bad, chars-end}
+use Rattle.utf8.specs.Chars.{left}
+use Rattle.utf8.proofs.Walks.{room_more, prefix_inside}
+use Rattle.iban.proofs.Blanks.{starts, past_blank, past_char, beyond_ascii, reached, no_character, ends}
 use Rattle.iban.proofs.drop_blanks.Goals as goal
 
-pub loop-at-init : goal.loop-at-init
-loop-at-init c = starts _ _ c.zeros-text.ensures
+pub loop-place-init : goal.loop-place-init
+loop-place-init c = starts _ _ _ (ap left c.into_iter-place-iterator.ensures.into_iter_gives ∙ c.new-place-items.ensures) c.zeros-text.ensures
 
-pub overflow_add-at : goal.overflow_add-at
-overflow_add-at c =
-    let here = stands _ _ _ _ c.loop-at.invariant.inside (sym c.decode.ensures ∙ c.in-Char.is) in
-    omega (arith, here)
+pub overflow_add-end : goal.overflow_add-end
+overflow_add-end c = omega (arith, room_more _ _ _ c.in-Some.ensures.steps, prefix_inside c.args.s.now)
 
-pub loop-at-smaller-then-is_white_space : goal.loop-at-smaller-then-is_white_space
-loop-at-smaller-then-is_white_space c =
-    let here = stands _ _ _ _ c.loop-at.invariant.inside (sym c.decode.ensures ∙ c.in-Char.is) in
-    omega (arith, here)
+pub loop-place-preserved-then-is_white_space : goal.loop-place-preserved-then-is_white_space
+loop-place-preserved-then-is_white_space c =
+    past_blank _ _ _ _ _ c.loop-place.invariant _ _ _ c.in-Some.ensures.steps (sym c.is_white_space.ensures ∙ c.if-is_white_space.true)
 
-pub loop-at-preserved-then-is_white_space : goal.loop-at-preserved-then-is_white_space
-loop-at-preserved-then-is_white_space c =
-    let here = stands _ _ _ _ c.loop-at.invariant.inside (sym c.decode.ensures ∙ c.in-Char.is) in
-    past_blank _ _ _ _ c.loop-at.invariant _ _ here (sym c.is_white_space.ensures ∙ c.if-is_white_space.true)
+pub returns-then-c-ge128 : goal.returns-then-c-ge128
+returns-then-c-ge128 c =
+    beyond_ascii _ _ _ _ _ c.loop-place.invariant _ _ _ c.in-Some.ensures.steps (sym c.is_white_space.ensures ∙ c.if-is_white_space.false) c.if-c-ge128.true
 
-pub returns-then-scalar-ge128 : goal.returns-then-scalar-ge128
-returns-then-scalar-ge128 c =
-    let here = stands _ _ _ _ c.loop-at.invariant.inside (sym c.decode.ensures ∙ c.in-Char.is) in
-    beyond_ascii _ _ _ _ c.loop-at.invariant _ _ here (sym c.is_white_space.ensures ∙ c.if-is_white_space.false) (omega arith)
-
-pub overflow_add-at-in-Char : goal.overflow_add-at-in-Char
-overflow_add-at-in-Char c =
-    let here = stands _ _ _ _ c.loop-at.invariant.inside (sym c.decode.ensures ∙ c.in-Char.is) in
-    omega (arith, here)
-
-pub loop-at-smaller : goal.loop-at-smaller
-loop-at-smaller c =
-    let here = stands _ _ _ _ c.loop-at.invariant.inside (sym c.decode.ensures ∙ c.in-Char.is) in
-    omega (arith, here)
-
-pub loop-at-preserved : goal.loop-at-preserved
-loop-at-preserved c =
-    let here = stands _ _ _ _ c.loop-at.invariant.inside (sym c.decode.ensures ∙ c.in-Char.is) in
+pub loop-place-preserved : goal.loop-place-preserved
+loop-place-preserved c =
     rw c.put.ensures
-    (past_char _ _ _ _ c.loop-at.invariant _ _ here (sym c.is_white_space.ensures ∙ c.if-is_white_space.false) (omega arith))
+    (past_char _ _ _ _ _ c.loop-place.invariant _ _ _ c.in-Some.ensures.steps (sym c.is_white_space.ensures ∙ c.if-is_white_space.false) (omega arith))
 
-pub returns-in-Bad : goal.returns-in-Bad
-returns-in-Bad c =
-    no_character _ _ _ _ c.loop-at.invariant (chars_bad _ (sym c.decode.ensures ∙ c.in-Bad.is)) c.loop-at-test.true
+pub returns-then-end-s : goal.returns-then-end-s
+returns-then-end-s c = no_character _ _ _ _ _ c.loop-place.invariant c.in-None.ensures.steps.0 c.if-end-s.true
 
 pub returns : goal.returns
-returns c = ends _ _ _ _ c.loop-at.invariant (chars-end c.args.s.now c.loop-at.at c.loop-at-test.false) c.loop-at-test.false
+returns c =
+    ends _ _ _ _ _ c.loop-place.invariant c.in-None.ensures.steps.0
+    (omega (arith, reached _ _ _ _ _ c.loop-place.invariant c.in-None.ensures.steps.0, prefix_inside c.args.s.now))

@@ -1,11 +1,7 @@
--- `iban::drop_blanks`'s loop. The invariant: the text so far, and the characters from there on, are the field's in electronic format. The measure is what is left.
-use Prim.Native.Nat.{◌-◌}
-use lib.ListN.{length}
+-- `iban::drop_blanks`'s loop. The invariant: the text so far, and the characters that are left, are the field's in electronic format.
+use Rattle.utf8.specs.Chars.{left}
 use Rattle.iban.proofs.Blanks.{Dropping}
 use Rattle.iban.proofs.drop_blanks.Given as goal
 
-abbrev pub invariant-loop-at : goal.invariant-loop-at
-invariant-loop-at l = Dropping l.s l.at l.count l.text
-
-abbrev pub decreases-loop-at : goal.decreases-loop-at
-decreases-loop-at l = length l.s - l.at
+abbrev pub invariant-loop-place : goal.invariant-loop-place
+invariant-loop-place l = Dropping l.s (left l.place-iterator) l.end l.count l.text

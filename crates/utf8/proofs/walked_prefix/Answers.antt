@@ -1,34 +1,20 @@
--- `utf8::walked_prefix` meets its contract. The loop's invariant: what is passed, and the width of the characters that start where it stands, are the whole prefix.
-use mathlib.Core.Path.{sym, ap, ◌∙◌}
-use native.Mathlib.Omega.{arith}
-use Rattle.utf8.specs.Chars.{widths, valid_prefix}
-use Rattle.utf8.proofs.Chars.{stands, chars_bad, chars-end}
+-- `utf8::walked_prefix` meets its contract: the widths of the characters add up to the prefix, which is within the text.
+use Rattle.std.proofs.Common.{rules, tests, arith, refl, ◌∙◌, ◌^◌, ◌<◌}
+use Rattle.std.proofs.lemmas.Iterator.{YieldsList-from_map}
+use Rattle.std.proofs.lemmas.Iterator.Consumers.{YieldsList-from_first, YieldsList-at, fits_by_from_yields_list, sum_by_from_yields_List}
+use Rattle.utf8.specs.Chars.{left}
+use Rattle.utf8.proofs.Walks.{room, room_start, prefix_inside}
 use Rattle.utf8.proofs.walked_prefix.Goals as goal
 
-pub loop-at-init : goal.loop-at-init
-unfolding valid_prefix
-loop-at-init c = (omega arith, omega arith)
-
-pub overflow_add-at-in-Char : goal.overflow_add-at-in-Char
-overflow_add-at-in-Char c =
-    let here = stands _ _ _ _ c.loop-at.invariant.0 (sym c.by_row.ensures ∙ c.in-Char.is) in
-    omega (arith, here)
-
-pub loop-at-smaller : goal.loop-at-smaller
-loop-at-smaller c =
-    let here = stands _ _ _ _ c.loop-at.invariant.0 (sym c.by_row.ensures ∙ c.in-Char.is) in
-    omega (arith, here)
-
-pub loop-at-preserved : goal.loop-at-preserved
-unfolding widths
-loop-at-preserved c =
-    let here = stands _ _ _ _ c.loop-at.invariant.0 (sym c.by_row.ensures ∙ c.in-Char.is) in
-    omega (arith, here, ap widths here.first)
-
-pub returns-in-Bad : goal.returns-in-Bad
-unfolding widths
-returns-in-Bad c = omega (arith, ap widths (chars_bad _ (sym c.by_row.ensures ∙ c.in-Bad.is)))
+pub sum-requires-clause-fits : goal.sum-requires-clause-fits
+sum-requires-clause-fits c =
+    let few : room (left c.new.result) < 2 ^ 64 = omega (arith, room_start _ _ c.new.ensures, prefix_inside c.args.s.now) in
+    fits_by_from_yields_list (λ p. p.1.width) (left c.new.result) c.map.result _
+    (YieldsList-from_map _ (λ p. p.1.width) (YieldsList-at c.map.ensures.source (YieldsList-from_first (λ x. x) left _ refl)) c.map.ensures.closure (λ x r q k. search (rules, tests)))
+    few
 
 pub returns : goal.returns
-unfolding widths
-returns c = omega (arith, ap widths (chars-end c.args.s.now c.loop-at.at c.loop-at-test.false))
+returns c =
+    sum_by_from_yields_List (λ p. p.1.width) (left c.new.result) c.map.result _ c.sum.ensures.ran
+    (YieldsList-from_map _ (λ p. p.1.width) (YieldsList-at c.map.ensures.source (YieldsList-from_first (λ x. x) left _ refl)) c.map.ensures.closure (λ x r q k. search (rules, tests)))
+    ∙ room_start _ _ c.new.ensures

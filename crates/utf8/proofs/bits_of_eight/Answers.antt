@@ -1,7 +1,0 @@
--- `utf8::bits_of_eight` meets its contract.
-use native.Mathlib.Omega.{arith}
-use Rattle.utf8.proofs.Ascii.{ascii_eight}
-use Rattle.utf8.proofs.bits_of_eight.Goals as goal
-
-pub returns : goal.returns
-returns c = ascii_eight c.args.s.now c.args.i (omega arith)
