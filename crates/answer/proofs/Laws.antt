@@ -60,6 +60,10 @@ pub test_held : (t : Bool) (r : Reason) (k : ℕ) → must t r k ≡ Pass → T 
 test_held true r k e = tt
 test_held false r k e = let z : ◌≡◌ {A = ℕ} 0 1 = cc in absurd (omega arith)
 
+pub test_held_true : (t : Bool) (r : Reason) (k : ℕ) → must t r k ≡ Pass → t ≡ true
+test_held_true true r k e = refl
+test_held_true false r k e = let z : ◌≡◌ {A = ℕ} 0 1 = cc in absurd (omega arith)
+
 -- a chain may be cut anywhere
 pub regroup : (a b d : Step) → (a and_then b) and_then d ≡ a and_then (b and_then d)
 unfolding ◌and_then◌

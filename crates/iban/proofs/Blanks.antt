@@ -4,11 +4,14 @@ use mathlib.Core.Path.{◌≡◌, refl, sym, ◌∙◌, ap}
 use mathlib.Core.Bool.{true, false}
 use mathlib.Core.List.{List, [], ◌∷◌, ◌++◌, append-nil, append_assoc, map-append}
 use native.Mathlib.Omega.{arith}
-use borrow.Author.Tests.{lt-ltb, le-ltb, eq-eqb, ne_eqb}
+use borrow.Author.Tests.{lt-ltb, eq-eqb}
+use lib.Dec.{eqb, ltb}
 use lib.ListN.{length, set, length-append}
-use Rattle.answer.specs.Steps.{◌and_then◌}
+use Rattle.answer.specs.Steps.{must, ◌and_then◌}
 use Rattle.answer.specs.declared.Reason.TheVariants.{Wrong}
-use Rattle.answer.specs.Result.{Pass, Stop}
+use Rattle.std.specs.Prelude.{Ok, Err}
+use Rattle.answer.specs.Result.{Pass}
+use Rattle.answer.specs.declared.Refusal.{Refusal}
 use Rattle.utf8.specs.Chars.{chars, placed, valid_prefix}
 use Rattle.utf8.specs.Space.{white_space}
 use Rattle.utf8.specs.declared.Char.{Char}
@@ -48,10 +51,9 @@ starts s text left p e =
       holds = e;
     }
 
--- a pass that stops refuses at a place
-stops : (s : List ℕ) (at count : ℕ) (text : List ℕ) → ascii_step s ≡ Stop (Wrong at) 101
-    → Dropped s (record { step = Stop (Wrong at) 101; count = count; text = text })
-stops s at count text e = record { ascii = sym e; holds = λ q. let z : ◌≡◌ {A = ℕ} 0 1 = cc in absurd (omega arith) }
+-- a pass that stops refuses
+stops : (s : List ℕ) (e : Refusal) → ascii_step s ≡ Err e → Dropped s (Err e)
+stops s e f = record { ascii = sym f; holds = λ x q. let z : ◌≡◌ {A = ℕ} 0 1 = cc in absurd (omega arith) }
 
 module _ (s : List ℕ) (left : List (ℕ × Char)) (end count : ℕ) (text : List ℕ) (o : Dropping s left end count text) where
   -- the next character
@@ -84,11 +86,11 @@ module _ (s : List ℕ) (left : List (ℕ × Char)) (end count : ℕ) (text : Li
           holds = rw (o.holds, o.size, ← length-text o.passed) (padded-more 34 (text_of o.passed) c.scalar ∙ ap (padded 34) (sym (text-more o.passed here)));
         }
 
-    pub beyond_ascii : white_space c.scalar ≡ false → 128 ≤ c.scalar → Dropped s (record { step = Stop (Wrong at) 101; count = count; text = text })
+    pub beyond_ascii : (e : Refusal) → white_space c.scalar ≡ false → must (ltb c.scalar 128) (Wrong at) 101 ≡ Err e → Dropped s (Err e)
     unfolding ascii_step all_ascii ◌and_then◌
-    beyond_ascii e large =
-        let next : kept left ≡ record { place = at; scalar = c.scalar } ∷ kept rest = rw (p, e) in
-        stops s at count text (rw (o.ascii, next, le-ltb c.scalar 128 large))
+    beyond_ascii e w large =
+        let next : kept left ≡ record { place = at; scalar = c.scalar } ∷ kept rest = rw (p, w) in
+        stops s e (rw (o.ascii, next, large))
 
   -- the characters end where none starts, or with the field
   module _ (e : left ≡ []) where
@@ -99,15 +101,17 @@ module _ (s : List ℕ) (left : List (ℕ × Char)) (end count : ℕ) (text : Li
     pub reached : valid_prefix s ≡ end
     reached = omega (arith, o.prefix, room_none left e)
 
-    pub no_character : end < length s → Dropped s (record { step = Stop (Wrong end) 101; count = count; text = text })
+    pub no_character : (e : Refusal) → must (eqb end (length s)) (Wrong end) 101 ≡ Err e → Dropped s (Err e)
     unfolding ascii_step ◌and_then◌
-    no_character h = stops s end count text (rw (none, reached, ne_eqb end (length s) (λ q. omega arith)))
+    no_character e h = stops s e (rw (none, reached) h)
 
-    pub ends : end ≡ length s → Dropped s (record { step = Pass; count = count; text = text })
+    pub ends : end ≡ length s → Dropped s (Ok (record { count = count; text = text }))
     unfolding ascii_step ◌and_then◌
     ends h =
         let all : o.passed ≡ electronic s = sym (o.whole ∙ ap (λ (l : List (ℕ × Char)). o.passed ++ kept l) e ∙ append-nil o.passed) in
         record {
           ascii = sym (rw (none, reached, eq-eqb end (length s) h));
-          holds = λ _. (o.holds ∙ ap (λ (l : List Character). padded 34 (text_of l)) all, o.size ∙ ap length all);
+          holds = λ e q.
+              let f : record { count = count; text = text } ≡ e = cc in
+              rw (← f) (o.holds ∙ ap (λ (l : List Character). padded 34 (text_of l)) all, o.size ∙ ap length all);
         }

@@ -1,13 +1,13 @@
 -- From the first pass and the class steps on its text to the definition: the electronic format, and the answer.
-use Prim.Native.Nat.{ℕ, ◌-◌, ◌≤◌}
+use Prim.Native.Nat.{ℕ, ◌≤◌}
 use mathlib.Core.Path.{◌≡◌, refl, sym, ◌∙◌, ap}
 use mathlib.Core.List.{List, []}
 use native.Mathlib.Omega.{arith}
 use lib.ListN.{length, take}
 use Rattle.answer.specs.Steps.{◌and_then◌, ◌or_accept◌}
-use Rattle.std.specs.Prelude.{Err}
-use Rattle.answer.specs.Result.{Refused, Step, Pass, Stop}
-use Rattle.answer.specs.declared.Reason.{Reason}
+use Rattle.std.specs.Prelude.{Result, Ok, Err}
+use Rattle.answer.specs.Result.{Step, Pass, refusal}
+use Rattle.answer.specs.declared.Refusal.{Refusal}
 use Rattle.answer.specs.declared.Reason.TheVariants.{Length}
 use Rattle.answer.proofs.Laws.{both_pass, test_held}
 use Rattle.text.specs.Ranges.{within}
@@ -22,66 +22,46 @@ use Rattle.iban.specs.declared.Electronic.{Electronic}
 use Rattle.iban.proofs.Electronics.{length-text}
 use Rattle.iban.proofs.Padded.{length-padded, padded-front}
 
--- a part from 0 up to n is asked for as its n - 0 first elements
-sub_zero : (n : ℕ) → n - 0 ≡ n
-sub_zero n = omega arith
-
 pub counted : (n : ℕ) → count_step n ≡ Pass → (5 ≤ n) × (n ≤ 34)
 unfolding count_step
 counted n e = within-ends 5 34 n (test_held (within 5 34 n) (Length 0 n) 102 e)
 
-module _ (s : List ℕ) (h : Electronic) (o : Dropped s h) where
-  -- the first two steps passed: the text is whole in the 34 bytes
-  pub record Whole : Type 0 where
-    pub high : h.count ≤ 34
-    pub room : length h.text ≡ 34
-    pub count : h.count ≡ length (electronic_text s)
-    pub text : h.text ≡ padded 34 (electronic_text s)
-    pub front : take (h.count - 0) h.text ≡ electronic_text s
-    pub first : iban_characters s ≡ step_in (electronic s) (class_steps (electronic_text s))
-
-  pub whole : h.step and_then count_step h.count ≡ Pass → Whole
-  unfolding iban_characters ◌and_then◌
-  whole e =
-      let p = both_pass h.step (count_step h.count) e in
-      let n = counted h.count p.1 in
-      let t = o.holds p.0 in
-      let same : h.count ≡ length (electronic_text s) = t.1 ∙ sym (length-text (electronic s)) in
-      record {
-        high = n.1;
-        room = ap length t.0 ∙ length-padded 34 (electronic_text s);
-        count = same;
-        text = t.0;
-        front = rw (sub_zero h.count, t.0, same) (padded-front 34 (electronic_text s) (omega arith));
-        first = rw (sym o.ascii ∙ p.0, ← t.1, p.1);
-      }
-
-  pub stopped : (r : Reason) (k : ℕ) → h.step and_then count_step h.count ≡ Stop r k → format_by (Stop r k) [] ≡ format_of s
+module _ (s : List ℕ) (r : Result Electronic Refusal) (o : Dropped s r) where
+  -- the first pass refuses, and so does the format
+  pub dropped_refuses : (e : Refusal) → r ≡ Err e → Err e ≡ format_of s
   unfolding format_of format_by iban_characters ◌and_then◌
-  stopped r k e = rw (go h.step refl e)
-    where
-      go : (x : Step) → h.step ≡ x → x and_then count_step h.count ≡ Stop r k
-          → (ascii_step s and_then count_step (length (electronic s))) and_then step_in (electronic s) (class_steps (electronic_text s)) ≡ Stop r k
-      go Pass q f = rw (sym o.ascii ∙ q, ← (o.holds q).1, f)
-      go (Err e) q f = rw (sym o.ascii ∙ q) f
+  dropped_refuses e f = rw (rw f at (sym o.ascii))
 
-  module _ (w : Whole) (x : Step) (are : x ≡ class_steps (take (h.count - 0) h.text)) where
-    by_class : iban_characters s ≡ step_in (electronic s) x
-    by_class = w.first ∙ ap (step_in (electronic s)) (sym (are ∙ ap class_steps w.front))
+  module _ (h : Electronic) (f : r ≡ Ok h) where
+    passes_ascii : ascii_step s ≡ Pass
+    passes_ascii = rw f at (sym o.ascii)
 
-    pub format_whole : x ≡ Pass → record { step = Pass; count = h.count; text = h.text } ≡ format_of s
-    unfolding format_of format_by
-    format_whole e = rw (by_class, e, w.text, w.count)
+    size : h.count ≡ length (electronic_text s)
+    size = (o.holds h f).1 ∙ sym (length-text (electronic s))
 
-    pub format_wrong : (r : Reason) (k : ℕ) → x ≡ Stop r k → format_by (Stop (reason_in (electronic s) r) k) [] ≡ format_of s
-    unfolding format_of format_by
-    format_wrong r k e = rw (by_class, e)
+    pub count_refuses : (e : Refusal) → count_step h.count ≡ Err e → Err e ≡ format_of s
+    unfolding format_of format_by iban_characters ◌and_then◌
+    count_refuses e g = rw (passes_ascii, ← (o.holds h f).1, g)
 
--- the text of a format always has room
-by_steps : (x : Step) (t : List ℕ) → (x ≡ Pass → length t ≤ 34) → ((format_by x t).count ≤ 34) × (length (format_by x t).text ≡ 34)
-unfolding format_by
-by_steps Pass t f = (f refl, length-padded 34 t)
-by_steps (Err e) t f = (omega arith, length-padded 34 [])
+    -- the first two steps passed: the text is whole in the 34 bytes
+    module _ (g : count_step h.count ≡ Pass) where
+      pub room : (h.count ≤ 34) × (length h.text ≡ 34)
+      room = ((counted h.count g).1, ap length (o.holds h f).0 ∙ length-padded 34 (electronic_text s))
+
+      front : take h.count h.text ≡ electronic_text s
+      front = rw ((o.holds h f).0, size) (padded-front 34 (electronic_text s) (omega (arith, room.0, size)))
+
+      first : iban_characters s ≡ step_in (electronic s) (class_steps (take h.count h.text))
+      unfolding iban_characters ◌and_then◌
+      first = rw (passes_ascii, ← (o.holds h f).1, g, front)
+
+      pub format_whole : class_steps (take h.count h.text) ≡ Pass → Ok h ≡ format_of s
+      unfolding format_of format_by
+      format_whole e = rw (first, e, (o.holds h f).0, size)
+
+      pub format_wrong : (e : Refusal) → class_steps (take h.count h.text) ≡ Err e → Err (refusal (reason_in (electronic s) e.reason) e.check) ≡ format_of s
+      unfolding format_of format_by
+      format_wrong e q = rw (first, q)
 
 -- where the steps pass, the text passed each of them
 step_passed : (l : List Character) (x : Step) → step_in l x ≡ Pass → x ≡ Pass
@@ -101,31 +81,37 @@ passed s e =
     let n : (5 ≤ length (electronic_text s)) × (length (electronic_text s) ≤ 34) = rw (length-text (electronic s)) (counted (length (electronic s)) q.1) in
     record { low = n.0; high = n.1; classes = step_passed (electronic s) (class_steps (electronic_text s)) p.1 }
 
-pub format_step : (x : Step) (t : List ℕ) → (format_by x t).step ≡ x
-unfolding format_by
-format_step Pass t = refl
-format_step (Err e) t = refl
-
 -- the answer from the format
-module _ (s : List ℕ) (h : Electronic) (o : h ≡ format_of s) where
-  pub room : (h.count ≤ 34) × (length h.text ≡ 34)
-  unfolding format_of
-  room = rw o (by_steps (iban_characters s) (electronic_text s) (λ e. (passed s e).high))
+formed : (x : Step) (t : List ℕ) (h : Electronic) → Ok h ≡ format_by x t → (x ≡ Pass) × (h ≡ record { count = length t; text = padded 34 t })
+unfolding format_by
+formed Pass t h e = (refl, cc)
+formed (Err x) t h e = let z : ◌≡◌ {A = ℕ} 0 1 = cc in absurd (omega arith)
 
-  pub step_is : (x : Step) → h.step ≡ x → iban_characters s ≡ x
-  unfolding format_of
-  step_is x e = sym (format_step (iban_characters s) (electronic_text s)) ∙ ap (λ (g : Electronic). g.step) (sym o) ∙ e
+unformed : (x : Step) (t : List ℕ) (e : Refusal) → Err e ≡ format_by x t → x ≡ Err e
+unfolding format_by
+unformed Pass t e f = let z : ◌≡◌ {A = ℕ} 0 1 = cc in absurd (omega arith)
+unformed (Err x) t e f = let g : e ≡ x = cc in rw g
 
-  pub text-is : h.step ≡ Pass → take (h.count - 0) h.text ≡ electronic_text s
-  unfolding format_of format_by
-  text-is e =
-      let p = step_is Pass e in
-      rw (o, p, sub_zero (length (electronic_text s))) (padded-front 34 (electronic_text s) (passed s p).high)
+module _ (s : List ℕ) (r : Result Electronic Refusal) (o : r ≡ format_of s) where
+  pub format_refuses : (e : Refusal) → r ≡ Err e → Err e ≡ iban_answer s
+  unfolding format_of iban_answer ◌and_then◌ ◌or_accept◌
+  format_refuses e f = rw (unformed (iban_characters s) (electronic_text s) e (sym f ∙ o))
 
-  pub sum_answers : h.step ≡ Pass → iban_answer s ≡ remainder_step (iban_remainder (electronic_text s)) 106 or_accept 1
-  unfolding iban_answer ◌and_then◌
-  sum_answers e = rw (step_is Pass e)
+  module _ (h : Electronic) (f : r ≡ Ok h) where
+    all_pass : iban_characters s ≡ Pass
+    unfolding format_of
+    all_pass = (formed (iban_characters s) (electronic_text s) h (sym f ∙ o)).0
 
-  pub step_answers : (r : Reason) (k : ℕ) → h.step ≡ Stop r k → Refused r k ≡ iban_answer s
-  unfolding iban_answer ◌and_then◌ ◌or_accept◌
-  step_answers r k e = rw (step_is (Stop r k) e)
+    parts : h ≡ record { count = length (electronic_text s); text = padded 34 (electronic_text s) }
+    unfolding format_of
+    parts = (formed (iban_characters s) (electronic_text s) h (sym f ∙ o)).1
+
+    pub formed_room : (h.count ≤ 34) × (length h.text ≡ 34)
+    formed_room = rw parts ((passed s all_pass).high, length-padded 34 (electronic_text s))
+
+    pub text_is : take h.count h.text ≡ electronic_text s
+    text_is = rw parts (padded-front 34 (electronic_text s) (passed s all_pass).high)
+
+    pub sum_is : iban_answer s ≡ remainder_step (iban_remainder (take h.count h.text)) 106 or_accept 1
+    unfolding iban_answer ◌and_then◌
+    sum_is = rw (all_pass, text_is)

@@ -66,8 +66,8 @@ reason_near l r k h o = go (eqb (row_of r).number 3)
 step_near : (l : List Character) (x : Step) → Placed l → Near x → Near (step_in l x)
 step_near l Pass h o = near_pass
 step_near l (Err e) h o =
-    let m = reason_near l r k h (o.small r k refl) in
-    near_at (reason_in l r) k m.place m.value
+    let m = reason_near l e.reason e.check h (o.small e.reason e.check refl) in
+    near_at (reason_in l e.reason) e.check m.place m.value
 
 pub iban_small : (s : List ℕ) → Short s → Small (iban_answer s)
 unfolding iban_answer iban_characters ascii_step count_step class_steps electronic valid_prefix

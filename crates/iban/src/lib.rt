@@ -1,24 +1,21 @@
 // Kind 1: an international bank account number (IBAN), ISO 13616, in a field with blanks of any width.
 #![tactic(auto)]
 
-ghost use Rattle.std.specs.Prelude.{◌≡◌, true, [], set};
-ghost use Rattle.answer.specs.declared.Reason.{Reason};
-ghost use Rattle.answer.specs.Result.{Step};
+ghost use Rattle.std.specs.Prelude.{◌≡◌, true, [], set, Ok};
 ghost use Rattle.utf8.specs.Chars.{ascii};
 ghost use Rattle.iban.specs.Electronic.{electronic, place_in};
 ghost use Rattle.iban.specs.Iban.{count_step, class_steps, reason_in, iban_answer};
-ghost use Rattle.iban.specs.Format.{padded, format_by, format_of};
+ghost use Rattle.iban.specs.Format.{padded, format_of};
 ghost use Rattle.iban.specs.Inner.{Dropped};
 
-use answer::{Answer, Reason, Step};
+use answer::{Answer, Numbers, Reason, Refusal, Step, must};
 use text::Set;
 use utf8::Walk;
 
-// What every step but the remainder says of a field; and where all of them pass, the IBAN in electronic format, that is, without blanks: its
-// characters, their count, and zeros past the last of them.
+// An IBAN in electronic format, that is, without blanks: its characters, their count, and zeros past the last of them. The count may be
+// above 34, of which a refusal tells; then the text holds the first 34.
 #[derive(Clone, Copy)]
 pub struct Electronic {
-    pub step: Step,
     pub count: usize,
     pub text: [u8; 34],
 }
@@ -40,7 +37,7 @@ fn put(text: &mut [u8], count: usize, b: u8)
 }
 
 // The characters of a field without its blanks. A character that is not ASCII is refused, and so is a byte at which no character starts.
-fn drop_blanks(s: &[u8]) -> Electronic
+fn drop_blanks(s: &[u8]) -> Result<Electronic, Refusal>
     ensures { Dropped s.now result }
 {
     let mut text = zeros();
@@ -51,25 +48,18 @@ fn drop_blanks(s: &[u8]) -> Electronic
         if utf8::is_white_space(c.scalar) {
             continue;
         }
-        if 128 <= c.scalar {
-            let step = Step::Stop(Reason::Wrong { place }, 101);
-            return Electronic { step, count, text };
-        }
+        must(c.scalar < 128, Reason::Wrong { place }, 101)?;
         put(&mut text, count, c.scalar as u8);
         count += 1;
     }
-    if end < s.len() {
-        let step = Step::Stop(Reason::Wrong { place: end }, 101);
-        return Electronic { step, count, text };
-    }
-    let step = Step::Pass;
-    Electronic { step, count, text }
+    must(end == s.len(), Reason::Wrong { place: end }, 101)?;
+    Ok(Electronic { count, text })
 }
 
 // The same for a field of which every byte is ASCII: each is a character, so that nothing is decoded and nothing is refused.
 fn drop_ascii_blanks(s: &[u8]) -> Electronic
     requires { ascii s.now ≡ true }
-    ensures { Dropped s.now result }
+    ensures { Dropped s.now (Ok result) }
 {
     let mut text = zeros();
     let mut count = 0;
@@ -80,27 +70,27 @@ fn drop_ascii_blanks(s: &[u8]) -> Electronic
         put(&mut text, count, *b);
         count += 1;
     }
-    let step = Step::Pass;
-    Electronic { step, count, text }
+    Electronic { count, text }
 }
 
 // Most fields are ASCII, and take the quick way.
-fn without_blanks(s: &[u8]) -> Electronic
+fn without_blanks(s: &[u8]) -> Result<Electronic, Refusal>
     ensures { Dropped s.now result }
 {
     if utf8::is_ascii(s) {
-        return drop_ascii_blanks(s);
+        return Ok(drop_ascii_blanks(s));
     }
     drop_blanks(s)
 }
 
 // The class steps on a text in electronic format, with places in that text.
+#[tactic(auto, using(answer::proofs::Laws::steps), unfolding(crate::specs::Iban::class_steps))]
 pub fn class_steps(t: &[u8]) -> Step
     ensures { result ≡ class_steps t.now }
 {
-    text::first_wrong(Set::Capitals, t, 0, 2, 103)
-        .then(text::first_wrong(Set::Digits, t, 2, 4, 104))
-        .then(text::first_wrong(Set::LettersDigits, t, 4, t.len(), 105))
+    text::first_wrong(Set::Capitals, t, 0, 2, 103)?;
+    text::first_wrong(Set::Digits, t, 2, 4, 104)?;
+    text::first_wrong(Set::LettersDigits, t, 4, t.len(), 105)
 }
 
 // The place in the lent field of the k-th character in electronic format.
@@ -114,10 +104,11 @@ fn place_of(s: &[u8], k: usize) -> usize
 }
 
 // A class step counts places in the electronic format; its caller is told the place in the lent field, blanks included.
+#[tactic(auto, unfolding(crate::specs::Iban::reason_in))]
 fn reason_in(s: &[u8], reason: Reason) -> Reason
     ensures { result ≡ reason_in (electronic s.now) reason }
 {
-    let numbers = reason.numbers();
+    let numbers = Numbers::from(reason);
     if numbers.number == 3 {
         return Reason::Wrong {
             place: place_of(s, numbers.place),
@@ -130,70 +121,35 @@ fn reason_in(s: &[u8], reason: Reason) -> Reason
 fn count_step(n: usize) -> Step
     ensures { result ≡ count_step n }
 {
-    if n < 5 {
-        return Step::Stop(
-            Reason::Length {
-                place: 0,
-                count: n as u64,
-            },
-            102,
-        );
-    }
-    if 34 < n {
-        return Step::Stop(
-            Reason::Length {
-                place: 0,
-                count: n as u64,
-            },
-            102,
-        );
-    }
-    Step::Pass
-}
-
-fn refused(reason: Reason, check: u32) -> Electronic
-    ensures { result ≡ format_by (Step.Stop reason check) [] }
-{
-    Electronic {
-        step: Step::Stop(reason, check),
-        count: 0,
-        text: zeros(),
-    }
+    let count = n as u64;
+    must(
+        (5..=34).contains(&n),
+        Reason::Length { place: 0, count },
+        102,
+    )
 }
 
 // Every step but the remainder, and the electronic format where they pass.
-pub fn electronic_format(s: &[u8]) -> Electronic
+pub fn electronic_format(s: &[u8]) -> Result<Electronic, Refusal>
     ensures { result ≡ format_of s.now }
 {
-    let found = without_blanks(s);
-    let count = found.count;
-    let text = found.text;
-    let ascii = found.step;
-    match ascii.then(count_step(count)) {
-        Step::Pass => match class_steps(&text[0..count]) {
-            Step::Pass => Electronic {
-                step: Step::Pass,
-                count,
-                text,
-            },
-            Step::Stop(reason, check) => refused(reason_in(s, reason), check),
-        },
-        Step::Stop(reason, check) => refused(reason, check),
+    let e = without_blanks(s)?;
+    count_step(e.count)?;
+    let characters = &e.text[..e.count];
+    match class_steps(characters) {
+        Ok(()) => Ok(e),
+        Err(refusal) => Err(Refusal {
+            reason: reason_in(s, refusal.reason),
+            ..refusal
+        }),
     }
 }
 
 pub fn validate_iban(s: &[u8]) -> Answer
     ensures { result ≡ iban_answer s.now }
 {
-    let e = electronic_format(s);
-    let count = e.count;
-    let text = e.text;
-    let step = e.step;
-    match step {
-        Step::Pass => {
-            let r = checkdigit::iban_remainder(&text[0..count]);
-            checkdigit::remainder_is_one(r, 106).or_accept(1)
-        }
-        Step::Stop(reason, check) => Answer::Refused(reason, check),
-    }
+    let e = electronic_format(s)?;
+    let characters = &e.text[..e.count];
+    checkdigit::remainder_is_one(checkdigit::iban_remainder(characters), 106)?;
+    Ok(1)
 }

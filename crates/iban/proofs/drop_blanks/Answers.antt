@@ -1,6 +1,9 @@
 -- `iban::drop_blanks` meets its contract. The invariant: the text so far, and the characters that are left, are the field's in electronic format.
 use mathlib.Core.Path.{sym, ap, ◌∙◌}
 use native.Mathlib.Omega.{arith}
+use borrow.Author.Tests.{ltb-true, eqb-true}
+use Rattle.std.proofs.lemmas.Result.{err_from_is_err_and}
+use Rattle.answer.proofs.Laws.{test_held_true}
 use Rattle.utf8.specs.Chars.{left}
 use Rattle.utf8.proofs.Walks.{room_more, prefix_inside}
 use Rattle.iban.proofs.Blanks.{starts, past_blank, past_char, beyond_ascii, reached, no_character, ends}
@@ -16,19 +19,27 @@ pub loop-place-preserved-then-is_white_space : goal.loop-place-preserved-then-is
 loop-place-preserved-then-is_white_space c =
     past_blank _ _ _ _ _ c.loop-place.invariant _ _ _ c.in-Some.ensures.steps (sym c.is_white_space.ensures ∙ c.if-is_white_space.true)
 
-pub returns-then-c-ge128 : goal.returns-then-c-ge128
-returns-then-c-ge128 c =
-    beyond_ascii _ _ _ _ _ c.loop-place.invariant _ _ _ c.in-Some.ensures.steps (sym c.is_white_space.ensures ∙ c.if-is_white_space.false) c.if-c-ge128.true
+pub returns-in_err-must : goal.returns-in_err-must
+returns-in_err-must c =
+    let p = err_from_is_err_and c.from_residual.result c.from_residual.ensures.1 in
+    rw (p.1, p.2)
+    (beyond_ascii _ _ _ _ _ c.loop-place.invariant _ _ _ c.in-Some.ensures.steps _ (sym c.is_white_space.ensures ∙ c.if-is_white_space.false) (sym c.must.ensures ∙ c.in_err-must.was))
+
+pub overflow_cast-c : goal.overflow_cast-c
+overflow_cast-c c = omega (arith, ltb-true _ _ (test_held_true _ _ _ (sym c.must.ensures ∙ c.in_ok-must.was)))
 
 pub loop-place-preserved : goal.loop-place-preserved
 loop-place-preserved c =
     rw c.put.ensures
-    (past_char _ _ _ _ _ c.loop-place.invariant _ _ _ c.in-Some.ensures.steps (sym c.is_white_space.ensures ∙ c.if-is_white_space.false) (omega arith))
+    (past_char _ _ _ _ _ c.loop-place.invariant _ _ _ c.in-Some.ensures.steps (sym c.is_white_space.ensures ∙ c.if-is_white_space.false)
+    (ltb-true _ _ (test_held_true _ _ _ (sym c.must.ensures ∙ c.in_ok-must.was))))
 
-pub returns-then-end-s : goal.returns-then-end-s
-returns-then-end-s c = no_character _ _ _ _ _ c.loop-place.invariant c.in-None.ensures.steps.0 c.if-end-s.true
+pub returns-in_err-must-2 : goal.returns-in_err-must-2
+returns-in_err-must-2 c =
+    let p = err_from_is_err_and c.from_residual-in_err-must-2.result c.from_residual-in_err-must-2.ensures.1 in
+    rw (p.1, p.2)
+    (no_character _ _ _ _ _ c.loop-place.invariant c.in-None.ensures.steps.0 _ (sym c.must-2.ensures ∙ c.in_err-must-2.was))
 
 pub returns : goal.returns
 returns c =
-    ends _ _ _ _ _ c.loop-place.invariant c.in-None.ensures.steps.0
-    (omega (arith, reached _ _ _ _ _ c.loop-place.invariant c.in-None.ensures.steps.0, prefix_inside c.args.s.now))
+    ends _ _ _ _ _ c.loop-place.invariant c.in-None.ensures.steps.0 (eqb-true _ _ (test_held_true _ _ _ (sym c.must-2.ensures ∙ c.in_ok-must-2.was)))

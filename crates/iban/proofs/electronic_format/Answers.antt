@@ -1,25 +1,30 @@
 -- `iban::electronic_format` meets its contract: the first pass, the count, and the class steps on the text, whose places are put back into the lent field.
 use mathlib.Core.Path.{sym, ◌∙◌}
 use native.Mathlib.Omega.{arith}
-use Rattle.iban.proofs.Formats.{whole, stopped, format_whole, format_wrong}
+use Rattle.std.proofs.lemmas.Result.{err_from_is_err_and}
+use Rattle.iban.proofs.Formats.{dropped_refuses, count_refuses, room, format_whole, format_wrong}
 use Rattle.iban.proofs.electronic_format.Goals as goal
 
-pub slice_bounds-class_steps-end : goal.slice_bounds-class_steps-end
-slice_bounds-class_steps-end c =
-    let w = whole _ _ c.without_blanks-found.ensures (rw (← c.count_step.ensures) (sym c.then.ensures ∙ c.in-Pass.is)) in
-    omega (arith, w.high, w.room)
+pub returns-in_err-e : goal.returns-in_err-e
+returns-in_err-e c =
+    let p = err_from_is_err_and c.from_residual.result c.from_residual.ensures.1 in
+    rw (p.1, p.2) (dropped_refuses _ _ c.without_blanks.ensures _ c.in_err-e.was)
 
-pub returns-in-Pass-class_steps : goal.returns-in-Pass-class_steps
-returns-in-Pass-class_steps c =
-    format_whole _ _ c.without_blanks-found.ensures (whole _ _ c.without_blanks-found.ensures (rw (← c.count_step.ensures) (sym c.then.ensures ∙ c.in-Pass.is))) _ c.class_steps.ensures c.in-Pass-class_steps.is
+pub returns-in_err-count_step : goal.returns-in_err-count_step
+returns-in_err-count_step c =
+    let p = err_from_is_err_and c.from_residual-in_err-count_step.result c.from_residual-in_err-count_step.ensures.1 in
+    rw (p.1, p.2) (count_refuses _ _ c.without_blanks.ensures _ c.in_ok-e.was _ (sym c.count_step.ensures ∙ c.in_err-count_step.was))
 
-pub returns-in-Stop-class_steps : goal.returns-in-Stop-class_steps
-returns-in-Stop-class_steps c =
-    c.refused.ensures
-    ∙ rw c.reason_in.ensures
-    (format_wrong _ _ c.without_blanks-found.ensures (whole _ _ c.without_blanks-found.ensures (rw (← c.count_step.ensures) (sym c.then.ensures ∙ c.in-Pass.is))) _ c.class_steps.ensures _ _ c.in-Stop-class_steps.is)
+pub shared_ref_as_front-characters : goal.slice_bounds-characters-end
+shared_ref_as_front-characters c =
+    let w = room _ _ c.without_blanks.ensures _ c.in_ok-e.was (sym c.count_step.ensures ∙ c.in_ok-count_step.was) in
+    omega (arith, w)
 
-pub returns-in-Stop : goal.returns-in-Stop
-returns-in-Stop c =
-    c.refused-in-Stop.ensures
-    ∙ stopped _ _ c.without_blanks-found.ensures _ _ (rw (← c.count_step.ensures) (sym c.then.ensures ∙ c.in-Stop.is))
+pub returns-in-Ok : goal.returns-in-Ok
+returns-in-Ok c =
+    format_whole _ _ c.without_blanks.ensures _ c.in_ok-e.was (sym c.count_step.ensures ∙ c.in_ok-count_step.was) (sym c.class_steps.ensures ∙ c.in-Ok.is)
+
+pub returns-in-Err : goal.returns-in-Err
+returns-in-Err c =
+    rw c.reason_in.ensures
+    (format_wrong _ _ c.without_blanks.ensures _ c.in_ok-e.was (sym c.count_step.ensures ∙ c.in_ok-count_step.was) _ (sym c.class_steps.ensures ∙ c.in-Err.is))

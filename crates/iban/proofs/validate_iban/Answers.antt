@@ -2,21 +2,30 @@
 use Prim.Native.Nat.{ℕ}
 use mathlib.Core.Path.{sym, ◌∙◌, ap}
 use native.Mathlib.Omega.{arith}
-use Rattle.answer.proofs.Laws.{accept_is}
-use Rattle.checkdigit.specs.Sum.{iban_remainder}
+use Rattle.std.proofs.lemmas.Result.{err_from_is_err_and}
+use Rattle.answer.proofs.Laws.{refuses, accepts}
 use Rattle.checkdigit.specs.RemainderStep.{remainder_step}
-use Rattle.iban.proofs.Formats.{room, text-is, sum_answers, step_answers}
+use Rattle.iban.proofs.Formats.{format_refuses, formed_room, sum_is}
 use Rattle.iban.proofs.validate_iban.Goals as goal
 
-pub slice_bounds-iban_remainder-end : goal.slice_bounds-iban_remainder-end
-slice_bounds-iban_remainder-end c = omega (arith, room _ _ c.electronic_format-e.ensures)
+pub returns-in_err-e : goal.returns-in_err-e
+returns-in_err-e c =
+    let p = err_from_is_err_and c.from_residual.result c.from_residual.ensures.1 in
+    rw (p.1, p.2) (format_refuses _ _ c.electronic_format.ensures _ c.in_err-e.was)
 
-pub returns-in-Pass : goal.returns-in-Pass
-returns-in-Pass c =
-    let r = c.iban_remainder-r.ensures.is ∙ ap iban_remainder (text-is _ _ c.electronic_format-e.ensures c.in-Pass.is) in
-    accept_is 1 c.or_accept.ensures (c.remainder_is_one.ensures ∙ ap (λ (n : ℕ). remainder_step n 106) r)
-    ∙ sym (sum_answers _ _ c.electronic_format-e.ensures c.in-Pass.is)
+pub shared_ref_as_front-characters : goal.slice_bounds-characters-end
+shared_ref_as_front-characters c =
+    let w = formed_room _ _ c.electronic_format.ensures _ c.in_ok-e.was in
+    omega (arith, w)
 
-pub returns-in-Stop : goal.returns-in-Stop
-returns-in-Stop c =
-    step_answers _ _ c.electronic_format-e.ensures _ _ c.in-Stop.is
+pub returns-in_err-remainder_is_one : goal.returns-in_err-remainder_is_one
+returns-in_err-remainder_is_one c =
+    let p = err_from_is_err_and c.from_residual-in_err-remainder_is_one.result c.from_residual-in_err-remainder_is_one.ensures.1 in
+    rw (p.1, p.2)
+    (sym (sum_is _ _ c.electronic_format.ensures _ c.in_ok-e.was
+    ∙ refuses 1 (rw (← c.iban_remainder.ensures.is) (sym c.remainder_is_one.ensures ∙ c.in_err-remainder_is_one.was))))
+
+pub returns : goal.returns
+returns c =
+    sym (sum_is _ _ c.electronic_format.ensures _ c.in_ok-e.was
+    ∙ accepts 1 (rw (← c.iban_remainder.ensures.is) (sym c.remainder_is_one.ensures ∙ c.in_ok-remainder_is_one.was)))
