@@ -15,7 +15,7 @@ returns-in_err-count_step c =
     let p = err_from_is_err_and c.from_residual-in_err-count_step.result c.from_residual-in_err-count_step.ensures.1 in
     rw (p.1, p.2) (count_refuses _ _ c.without_blanks.ensures _ c.in_ok-e.was _ (sym c.count_step.ensures ∙ c.in_err-count_step.was))
 
-pub shared_ref_as_front-characters : goal.slice_bounds-characters-end
+pub shared_ref_as_front-characters : goal.shared_ref_as_front-characters
 shared_ref_as_front-characters c =
     let w = room _ _ c.without_blanks.ensures _ c.in_ok-e.was (sym c.count_step.ensures ∙ c.in_ok-count_step.was) in
     omega (arith, w)

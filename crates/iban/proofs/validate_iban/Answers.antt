@@ -13,7 +13,7 @@ returns-in_err-e c =
     let p = err_from_is_err_and c.from_residual.result c.from_residual.ensures.1 in
     rw (p.1, p.2) (format_refuses _ _ c.electronic_format.ensures _ c.in_err-e.was)
 
-pub shared_ref_as_front-characters : goal.slice_bounds-characters-end
+pub shared_ref_as_front-characters : goal.shared_ref_as_front-characters
 shared_ref_as_front-characters c =
     let w = formed_room _ _ c.electronic_format.ensures _ c.in_ok-e.was in
     omega (arith, w)
