@@ -13,14 +13,21 @@ use Rattle.std.specs.Prelude.{Err, Some, None}
 use Rattle.std.specs.Option.{ok_or}
 use Rattle.answer.specs.declared.Refusal.{Refusal}
 use Rattle.answer.specs.Result.{Step, Pass, Refused, Accepted, refusal}
+use Rattle.answer.specs.declared.Reason.{Reason}
+use Rattle.text.proofs.Classes.{digit_ends}
+use Rattle.text.specs.Class.{is_digit}
 use Rattle.answer.specs.declared.Reason.TheVariants.{TooLarge}
-use Rattle.answer.proofs.Laws.{both_pass}
+use Rattle.answer.proofs.Laws.{both_pass, stops, passes, refuses, test_held}
 use Rattle.text.specs.Decimal.{digit_of, fitted}
 use Rattle.text.specs.Field.{present, first_wrong}
 use Rattle.text.specs.declared.Set.TheVariants.{Digits}
-use Rattle.text.proofs.Decimals.{number-none, number_more, number_grows}
-use Rattle.text.proofs.Fields.{first-most, digits-most}
+use Rattle.text.proofs.Decimals.{number-none, number_more, number_grows, fitted-is}
+use Rattle.text.proofs.Fields.{first-most, digits-most, wrong_step, wrong_none}
 use Rattle.common.specs.Cents.{below64, digits_at, number_between, digits, whole, whole_number, worth}
+
+-- a byte that passed the test is a digit
+pub digit_held : (b : ℕ) (r : Reason) (k : ℕ) → must (is_digit b) r k ≡ Pass → (48 ≤ b) × (b ≤ 57)
+digit_held b r k e = digit_ends b (test_held (is_digit b) r k e)
 
 -- digits by the number that they write
 module _ (s : List ℕ) (at to k : ℕ) (e : first_wrong Digits s at to k ≡ Pass) where
@@ -111,6 +118,9 @@ total_is n k p q = rw (p, q) (go (ltb n (2 ^ 64)))
     go true = refl
     go false = refl
 
+-- for the functions of `src/`: what each step of theirs needs
 pub ruleset fractions = (refused_read, read, worth-none, worth_one, worth_two)
 
 pub ruleset pairs = (refused_read, read, first-most)
+
+pub ruleset searching = (stops, passes, refuses, wrong_step, wrong_none, number_empty, number_reached, number-next, fitted-is, digits_fit, digit_held, test_held)

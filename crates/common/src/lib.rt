@@ -51,6 +51,7 @@ impl Part<'_> {
 
     // Digits from a place on, read in one pass. Once their number is 2^64 or more it is not computed any more, and the other bytes are
     // only tested: a non-digit among them is refused before the number is.
+    #[tactic(auto, using(crate::proofs::Reading::searching), unfolding(crate::specs::Cents::digits, text::specs::Field::first_wrong))]
     fn digits(&self, at: usize) -> Answer
         ensures { result ≡ digits self.now.s.now at self.now.to (self.now.check + 1) or_accept number_between self.now.s.now at self.now.to }
     {
@@ -75,6 +76,7 @@ impl Part<'_> {
         Ok(n)
     }
 
+    // One digit or more, after a `+` or none.
     #[tactic(auto, using(answer::proofs::Laws::steps), unfolding(crate::specs::Cents::whole, crate::specs::Cents::whole_number))]
     fn whole(&self) -> Answer
         ensures { result ≡ whole self.now.s.now self.now.from self.now.to self.now.check or_accept whole_number self.now.s.now self.now.from self.now.to }
