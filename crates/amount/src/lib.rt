@@ -1,21 +1,17 @@
 // Amounts, kind 6: one `+` or none, up to 18 digits, and after a `.` one to 5 more, not all of them zero.
 #![tactic(auto)]
 
-ghost use Rattle.std.specs.Prelude.{◌≡◌, ◌-◌, ◌<◌};
+ghost use Rattle.std.specs.Prelude.{◌≡◌, ◌<◌};
 ghost use Rattle.amount.specs.Amount.{start, at_most, part, fraction, no_minus, all_zero, not_zero, validate_amount};
 
-use answer::{Answer, Reason, Step};
+use answer::{Answer, Reason, Step, must};
 use text::Set;
 
 #[tactic(auto, unfolding(crate::specs::Amount::no_minus))]
 fn no_minus(s: &[u8]) -> Step
     ensures { result ≡ no_minus s.now }
 {
-    if text::at(s, 0) == b'-' {
-        Step::Stop(Reason::NotPositive, 602)
-    } else {
-        Step::Pass
-    }
+    must(text::at(s, 0) != b'-', Reason::NotPositive, 602)
 }
 
 // The place of the integer part: one `+` is skipped.
@@ -23,87 +19,68 @@ fn no_minus(s: &[u8]) -> Step
 fn start(s: &[u8]) -> usize
     ensures { result ≡ start s.now }
 {
-    if text::at(s, 0) == b'+' { 1 } else { 0 }
-}
-
-// How far apart two places are; 0 where the second is the lower.
-fn apart(from: usize, to: usize) -> usize
-    ensures { result ≡ to - from }
-{
-    if from < to { to - from } else { 0 }
+    usize::from(text::at(s, 0) == b'+')
 }
 
 #[tactic(auto, unfolding(crate::specs::Amount::at_most))]
 fn at_most(most: usize, from: usize, count: usize, check: u16) -> Step
     ensures { result ≡ at_most most from count check }
 {
-    if count <= most {
-        Step::Pass
-    } else {
-        Step::Stop(
-            Reason::Length {
-                place: from,
-                count: count as u64,
-            },
-            check as u32,
-        )
-    }
+    must(
+        count <= most,
+        Reason::Length {
+            place: from,
+            count: count as u64,
+        },
+        u32::from(check),
+    )
 }
 
 // A part from one place up to another: not empty, digits only, no more than so many.
+#[tactic(auto, using(answer::proofs::Laws::steps), unfolding(crate::specs::Amount::part))]
 fn part(s: &[u8], from: usize, to: usize, most: usize, check: u16) -> Step
     requires { check < 1000 }
     ensures { result ≡ part s.now from to most check }
 {
-    text::present(from, to, check)
-        .then(text::first_wrong(Set::Digits, s, from, to, check + 1))
-        .then(at_most(most, from, apart(from, to), check + 2))
+    text::present(from, to, check)?;
+    text::first_wrong(Set::Digits, s, from, to, check + 1)?;
+    at_most(most, from, to.saturating_sub(from), check + 2)
 }
 
 // What stands after the `.`, if there is one.
+#[tactic(auto, unfolding(crate::specs::Amount::fraction))]
 fn fraction(s: &[u8], dot: usize) -> Step
     ensures { result ≡ fraction s.now dot }
 {
     if dot < s.len() {
         part(s, dot + 1, s.len(), 5, 606)
     } else {
-        Step::Pass
+        Ok(())
     }
 }
 
 fn all_zero(s: &[u8]) -> bool
     ensures { result ≡ all_zero s.now }
 {
-    let mut i = 0;
-    while i < s.len() {
-        if b'1' <= s[i] && s[i] <= b'9' {
-            return false;
-        }
-        i += 1;
-    }
-    true
+    !s.iter().any(|b| (b'1'..=b'9').contains(b))
 }
 
 #[tactic(auto, unfolding(crate::specs::Amount::not_zero))]
 fn not_zero(s: &[u8]) -> Step
     ensures { result ≡ not_zero s.now }
 {
-    if all_zero(s) {
-        Step::Stop(Reason::NotPositive, 609)
-    } else {
-        Step::Pass
-    }
+    must(!all_zero(s), Reason::NotPositive, 609)
 }
 
+#[tactic(auto, using(answer::proofs::Laws::steps), unfolding(crate::specs::Amount::validate_amount))]
 pub fn validate_amount(s: &[u8]) -> Answer
     ensures { result ≡ validate_amount s.now }
 {
-    let from = start(s);
+    text::present(0, s.len(), 601)?;
+    no_minus(s)?;
     let dot = text::first_place(s, b'.');
-    text::present(0, s.len(), 601)
-        .then(no_minus(s))
-        .then(part(s, from, dot, 18, 603))
-        .then(fraction(s, dot))
-        .then(not_zero(s))
-        .or_accept(0)
+    part(s, start(s), dot, 18, 603)?;
+    fraction(s, dot)?;
+    not_zero(s)?;
+    Ok(0)
 }

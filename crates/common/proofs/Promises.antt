@@ -1,7 +1,7 @@
 -- docs/CHECKS.md numbers a step for each sentence of SCOPE. Three of them refuse no field: 906, as of two bytes after the `.` one at least stands
 -- where the first digit should; and 908 and 1008, as two digits write less than 2^64.
 use Prim.Native.Nat.{ℕ, zero, suc, ◌+◌, ◌-◌, ◌^◌, ◌≤◌, ◌<◌}
-use mathlib.Core.Path.{◌≡◌, refl}
+use mathlib.Core.Path.{◌≡◌, refl, ◌∙◌}
 use mathlib.Core.Bool.{Bool, true, false, ◌&&◌, cond}
 use mathlib.Core.List.{List}
 use mathlib.Core.Logic.{◌≢◌, ◌⊎◌, inl, inr, ⊎_elim}
@@ -15,7 +15,7 @@ use Rattle.answer.specs.declared.Reason.{Reason}
 use Rattle.answer.specs.declared.Reason.TheVariants.{Length, Wrong, Missing, TooLarge}
 use Rattle.std.specs.Prelude.{Err}
 use Rattle.answer.specs.Result.{Step, Pass, Stop}
-use Rattle.answer.proofs.Laws.{test_held}
+use Rattle.answer.proofs.Laws.{test_held, stops_alike}
 use Rattle.text.specs.Class.{allowed}
 use Rattle.text.specs.Field.{dot, present, wrong_from, first_wrong}
 use Rattle.text.specs.Ranges.{within}
@@ -44,7 +44,7 @@ module _ {n : ℕ} where
 
   never_must : (t : Bool) (r : Reason) (k : ℕ) → k ≢ n → Never n (must t r k)
   never_must true r k h = never_pass
-  never_must false r k h = record { not = λ q j e f. h (cc) }
+  never_must false r k h = record { not = λ q j e f. h ((stops_alike e).1 ∙ f) }
 
   never_then : (a b : Step) → Never n a → (a ≡ Pass → Never n b) → Never n (a and_then b)
   unfolding ◌and_then◌

@@ -1,3 +1,2 @@
 -- The definitions that the contracts of `common` cite.
 pub mod Cents
-pub mod Inner

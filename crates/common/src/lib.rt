@@ -2,13 +2,12 @@
 #![tactic(auto)]
 
 ghost use Rattle.std.specs.Prelude.{◌≡◌, ◌+◌, ◌*◌, ◌≤◌, length};
-ghost use Rattle.answer.specs.Steps.{◌and_then◌, ◌or_accept◌};
+ghost use Rattle.answer.specs.Steps.{must, ◌or_accept◌};
 ghost use Rattle.answer.specs.declared.Reason.{Reason};
-ghost use Rattle.answer.specs.Result.{Step};
+ghost use Rattle.text.specs.Decimal.{fitted};
 ghost use Rattle.text.specs.Field.{first_place};
-ghost use Rattle.common.specs.Inner.{parsed};
+ghost use Rattle.text.specs.Ranges.{within};
 ghost use Rattle.common.specs.Cents.{
-  below64,
   digits_at,
   number_between,
   digits,
@@ -23,149 +22,153 @@ ghost use Rattle.common.specs.Cents.{
   parse_amount_cents_lenient,
 };
 
-use answer::{Answer, Reason, Step};
+use answer::{Answer, Reason, Refusal, Step, must};
 use text::Set;
 
-// What reading a part gives: its number, or the refusal of the step that failed.
+// The text of a whole number: the bytes of a field from one place up to another, and the check number of the first step on them.
 #[derive(Clone, Copy)]
-enum Parsed {
-    Is(u64),
-    Not(Reason, u32),
+struct Part<'a> {
+    s: &'a [u8],
+    from: usize,
+    to: usize,
+    check: u16,
+    ghost inside: { to ≤ length s.now },
+    ghost counted: { check ≤ 2000 },
 }
 
-// The place where the first digit should stand: after a `+`, if there is one.
-#[tactic(auto, unfolding(crate::specs::Cents::digits_at))]
-fn digits_at(s: &[u8], from: usize, to: usize) -> usize
-    requires { to ≤ length s.now }
-    ensures { result ≡ digits_at s.now from to }
-{
-    if from < to && s[from] == b'+' {
-        from + 1
-    } else {
-        from
-    }
-}
-
-// The answer for digits that write 2^64 or more. A non-digit among those not read yet is refused before the number is, so they were looked
-// through: `rest` is what that search said.
-fn past_limit(rest: Step, check: u16) -> Parsed
-    ensures { result ≡ parsed (rest and_then Step.Stop Reason.TooLarge (check + 1)) 0 }
-{
-    match rest {
-        Step::Pass => Parsed::Not(Reason::TooLarge, check as u32 + 1),
-        Step::Stop(reason, step) => Parsed::Not(reason, step),
-    }
-}
-
-// Digits, read in one pass. Once their number is 2^64 or more it is not computed any more, and the other bytes are only tested.
-fn digits(s: &[u8], at: usize, to: usize, check: u16) -> Parsed
-    requires { (at ≤ to) × (to ≤ length s.now) × (check ≤ 2000) }
-    ensures { result ≡ parsed (digits s.now at to check) (number_between s.now at to) }
-{
-    let mut n: u64 = 0;
-    let mut i = at;
-    while i < to {
-        let b = s[i];
-        if !text::allows(Set::Digits, b) {
-            return Parsed::Not(Reason::Wrong { place: i }, check as u32);
-        }
-        let d = (b - 48) as u64;
-        if text::has_room(n, d) {
-            n = n * 10 + d;
-            i += 1;
+impl Part<'_> {
+    // The place where the first digit should stand: after a `+`, if there is one.
+    #[tactic(auto, unfolding(crate::specs::Cents::digits_at))]
+    fn digits_at(&self) -> usize
+        ensures { result ≡ digits_at self.now.s.now self.now.from self.now.to }
+    {
+        if self.from < self.to && self.s[self.from] == b'+' {
+            self.from + 1
         } else {
-            return past_limit(text::first_wrong(Set::Digits, s, i, to, check), check);
+            self.from
         }
     }
-    Parsed::Is(n)
+
+    // Digits from a place on, read in one pass. Once their number is 2^64 or more it is not computed any more, and the other bytes are
+    // only tested: a non-digit among them is refused before the number is.
+    #[tactic(auto, using(crate::proofs::Reading::searching), unfolding(crate::specs::Cents::digits, text::specs::Field::first_wrong))]
+    fn digits(&self, at: usize) -> Answer
+        ensures { result ≡ digits self.now.s.now at self.now.to (self.now.check + 1) or_accept number_between self.now.s.now at self.now.to }
+    {
+        let check = self.check + 1;
+        let mut n = 0;
+        for i in at..self.to {
+            let b = self.s[i];
+            must(
+                Set::Digits.allows(b),
+                Reason::Wrong { place: i },
+                u32::from(check),
+            )?;
+            let Some(more) = text::with_digit(n, u64::from(b - b'0')) else {
+                text::first_wrong(Set::Digits, self.s, i, self.to, check)?;
+                return Err(Refusal {
+                    reason: Reason::TooLarge,
+                    check: u32::from(check) + 1,
+                });
+            };
+            n = more;
+        }
+        Ok(n)
+    }
+
+    // One digit or more, after a `+` or none.
+    #[tactic(auto, using(answer::proofs::Laws::steps), unfolding(crate::specs::Cents::whole, crate::specs::Cents::whole_number))]
+    fn whole(&self) -> Answer
+        ensures { result ≡ whole self.now.s.now self.now.from self.now.to self.now.check or_accept whole_number self.now.s.now self.now.from self.now.to }
+    {
+        let at = self.digits_at();
+        text::present(at, self.to, self.check)?;
+        self.digits(at)
+    }
 }
 
-// A whole number from one place up to another.
-fn whole(s: &[u8], from: usize, to: usize, check: u16) -> Parsed
-    requires { (to ≤ length s.now) × (check ≤ 1900) }
-    ensures { result ≡ parsed (whole s.now from to check) (whole_number s.now from to) }
+// After the `.`, from a place on, stand at least `least` bytes and at most two.
+fn at_most_two(least: usize, from: usize, count: usize, check: u16) -> Step
+    ensures { result ≡ must (within least 2 count) (Reason.Length from count) check }
 {
-    let at = digits_at(s, from, to);
-    if to <= at {
-        return Parsed::Not(Reason::Missing { place: at }, check as u32);
-    }
-    digits(s, at, to, check + 1)
+    must(
+        (least..=2).contains(&count),
+        Reason::Length {
+            place: from,
+            count: count as u64,
+        },
+        u32::from(check),
+    )
 }
 
-// The bytes from a place on, which stand after the `.`: what they are worth in cents. There are at least `least` of them and at most two.
-fn fraction(least: usize, s: &[u8], from: usize, check: u16) -> Parsed
-    requires { (from ≤ length s.now) × (check ≤ 1800) }
-    ensures { result ≡ parsed (fraction least s.now from check) (worth s.now from) }
+// What the bytes from a place on, which stand after the `.`, are worth in cents.
+#[tactic(auto, using(answer::proofs::Laws::steps, crate::proofs::Reading::fractions), unfolding(crate::specs::Cents::fraction))]
+fn fraction(least: usize, s: &[u8], from: usize, check: u16) -> Answer
+    requires { check ≤ 1900 }
+    ensures { result ≡ fraction least s.now from check or_accept worth s.now from }
 {
-    let count = s.len() - from;
-    if count < least || 2 < count {
-        return Parsed::Not(
-            Reason::Length {
-                place: from,
-                count: count as u64,
-            },
-            check as u32,
-        );
-    }
+    let count = s.len().saturating_sub(from);
+    at_most_two(least, from, count, check)?;
     if count == 0 {
-        return Parsed::Is(0);
+        return Ok(0);
     }
-    match whole(s, from, s.len(), check + 1) {
-        Parsed::Is(n) => {
-            if count == 1 {
-                Parsed::Is(n * 10)
-            } else {
-                Parsed::Is(n)
-            }
-        }
-        Parsed::Not(reason, step) => Parsed::Not(reason, step),
+    let n = Part {
+        s,
+        from,
+        to: s.len(),
+        check: check + 1,
     }
+    .whole()?;
+    Ok(if count == 1 { n * 10 } else { n })
 }
 
 // The first place after the `.`, and the end where there is none.
+#[tactic(auto, unfolding(crate::specs::Cents::past))]
 fn past(s: &[u8], dot: usize) -> usize
-    ensures place { result ≡ past s.now dot }
-    ensures inside { result ≤ length s.now }
+    ensures { result ≡ past s.now dot }
 {
-    if dot < s.len() { dot + 1 } else { s.len() }
+    s.len().min(dot.saturating_add(1))
 }
 
 // The cents of n whole units and m hundredths, where they are below 2^64.
-fn total(n: u64, m: u64, check: u16) -> Answer
-    ensures { result ≡ below64 (100 * n + m) check or_accept (100 * n + m) }
+#[tactic(auto, using(text::proofs::Decimals::checked_fits, text::proofs::Decimals::past_fits))]
+fn total(n: u64, m: u64) -> Option<u64>
+    ensures { result ≡ fitted (100 * n + m) }
 {
-    if n <= (18_446_744_073_709_551_615 - m) / 100 {
-        Answer::Accepted(100 * n + m)
-    } else {
-        Answer::Refused(Reason::TooLarge, check as u32)
-    }
+    n.checked_mul(100)?.checked_add(m)
 }
 
 // The steps that the two kinds share. The kinds differ in `least`, the fewest bytes that may stand after the `.`, and in their check numbers,
 // which count on from `check`.
+#[tactic(auto, using(answer::proofs::Laws::steps, crate::proofs::Reading::pairs), unfolding(crate::specs::Cents::parts, crate::specs::Cents::cents))]
 fn parts(least: usize, s: &[u8], dot: usize, check: u16) -> Answer
     requires { (dot ≡ first_place 46 s.now) × (check ≤ 1000) }
     ensures { result ≡ parts least s.now check or_accept cents s.now }
 {
-    match whole(s, 0, dot, check + 2) {
-        Parsed::Is(n) => match fraction(least, s, past(s, dot), check + 5) {
-            Parsed::Is(m) => total(n, m, check + 9),
-            Parsed::Not(reason, step) => Answer::Refused(reason, step),
-        },
-        Parsed::Not(reason, step) => Answer::Refused(reason, step),
+    let n = Part {
+        s,
+        from: 0,
+        to: dot,
+        check: check + 2,
     }
+    .whole()?;
+    let m = fraction(least, s, past(s, dot), check + 5)?;
+    total(n, m).ok_or(Refusal {
+        reason: Reason::TooLarge,
+        check: u32::from(check) + 9,
+    })
 }
 
+#[tactic(auto, using(answer::proofs::Laws::steps), unfolding(crate::specs::Cents::parse_amount_cents))]
 pub fn parse_amount_cents(s: &[u8]) -> Answer
     ensures { result ≡ parse_amount_cents s.now }
 {
     let dot = text::first_place(s, b'.');
-    if s.len() <= dot {
-        return Answer::Refused(Reason::Missing { place: dot }, 901);
-    }
+    text::present(dot, s.len(), 901)?;
     parts(2, s, dot, 900)
 }
 
+#[tactic(auto, unfolding(crate::specs::Cents::parse_amount_cents_lenient))]
 pub fn parse_amount_cents_lenient(s: &[u8]) -> Answer
     ensures { result ≡ parse_amount_cents_lenient s.now }
 {

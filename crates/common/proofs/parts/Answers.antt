@@ -1,25 +1,15 @@
 -- `common::parts` meets its contract: the steps are the definition's, and the numbers that they leave are those of the cents.
-use mathlib.Core.Path.{◌∙◌, sym}
-use native.Mathlib.Omega.{arith}
-use Rattle.common.proofs.Reading.{parts_first, parts_second, parts-total}
-use Rattle.text.proofs.Fields.{first-most}
+use Rattle.std.proofs.Common.{◌≡◌, sym, ◌∙◌, ◌+◌, ◌*◌}
+use Rattle.text.specs.Field.{dot}
+use Rattle.common.proofs.Reading.{read, total_is}
+use Rattle.common.specs.Cents.{parts, cents}
 use Rattle.common.proofs.parts.Goals as goal
 
-pub whole-requires : goal.whole-requires
-whole-requires c = (omega (arith, c.requires.0, first-most 46 c.args.s.now), omega arith)
-
-pub fraction-requires : goal.fraction-requires
-fraction-requires c = (c.past.ensures.inside, omega arith)
-
-pub returns-in-Is-fraction : goal.returns-in-Is-fraction
-returns-in-Is-fraction c =
-    c.total.ensures
-    ∙ parts-total c.args.least c.args.s.now c.args.check c.args.dot c.requires.0 _ _ c.past.ensures.place (sym c.whole.ensures ∙ c.in-Is.is) _ (sym c.fraction.ensures ∙ c.in-Is-fraction.is)
-
-pub returns-in-Not-fraction : goal.returns-in-Not-fraction
-returns-in-Not-fraction c =
-    parts_second c.args.least c.args.s.now c.args.check c.args.dot c.requires.0 _ _ c.past.ensures.place (sym c.whole.ensures ∙ c.in-Is.is) _ _ (sym c.fraction.ensures ∙ c.in-Not-fraction.is)
-
-pub returns-in-Not : goal.returns-in-Not
-returns-in-Not c =
-    parts_first c.args.least c.args.s.now c.args.check c.args.dot c.requires.0 _ _ (sym c.whole.ensures ∙ c.in-Not.is)
+pub returns : goal.returns
+unfolding parts cents
+returns c =
+    let w = read _ _ (sym c.whole.ensures ∙ c.in_ok-n.was) in
+    let f = read _ _ (sym c.fraction.ensures ∙ c.in_ok-m.was) in
+    let d : dot c.args.s.now ≡ c.args.dot = sym c.requires.0 in
+    rw (c.ok_or.ensures.value, c.total.ensures, c.from.ensures, d, ← c.past.ensures, ← w.1, ← f.1)
+    (total_is (100 * c.in_ok-n.n + c.in_ok-m.m) (c.args.check + 9) w.0 f.0)
