@@ -8,7 +8,7 @@ use lib.Dec.{leb, leb→le}
 use lib.ListN.{length}
 use Rattle.answer.specs.Steps.{must}
 use Rattle.std.specs.Prelude.{Err}
-use Rattle.answer.specs.Result.{Answer, Step, Pass, Stop}
+use Rattle.answer.specs.Result.{Answer, Step, Pass}
 use Rattle.answer.specs.declared.Reason.TheVariants.{TooLong}
 use Rattle.answer.proofs.Laws.{both_pass, test_held}
 use Rattle.text.proofs.Near.{Small, Near, Short, near_at, near_after, nears}

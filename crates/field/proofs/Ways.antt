@@ -1,6 +1,6 @@
 -- The ways in which a field's steps may be asked: each gives the answers of SCOPE's order where it suits the kind.
 use Prim.Native.Nat.{ℕ, ◌+◌, ◌≤◌}
-use mathlib.Core.Path.{◌≡◌, refl, sym, ◌∙◌}
+use mathlib.Core.Path.{◌≡◌, refl}
 use mathlib.Core.Bool.{Bool, true, false}
 use mathlib.Core.List.{List, [], ◌∷◌, map}
 use mathlib.Core.Logic.{◌≢◌, inl, inr, ⊎_elim}
@@ -12,7 +12,7 @@ use types.Run.{OneOf}
 use Rattle.answer.specs.Steps.{◌and_then◌, ◌or_accept◌}
 use Rattle.std.specs.Prelude.{Err}
 use Rattle.answer.specs.Result.{Answer, Accepted, Refused, Step, Pass, Stop}
-use Rattle.answer.specs.declared.Reason.{Reason}
+use Rattle.answer.specs.declared.Refusal.{Refusal}
 use Rattle.answer.specs.declared.Reason.TheVariants.{UnknownKind}
 use Rattle.text.proofs.Low.{Low}
 use Rattle.text.specs.Ranges.{within}
@@ -26,10 +26,12 @@ use Rattle.amount.proofs.Accepted.{amount_low}
 use Rattle.country.proofs.Accepted.{country_low}
 use Rattle.currency.proofs.Accepted.{currency_low}
 use Rattle.common.proofs.Accepted.{cents-low, lenient_low}
-use Rattle.field.specs.Field.{Kind, kinds, line_in, limit_step, admission, rule_of, answered, check_field}
-use Rattle.field.specs.Inner.{utf8_step, before_rule, after_rule, Suits}
+use Rattle.field.specs.Field.{Kind, kinds, known, line_in, limit_step, admission, rule_of, answered, check_field}
+use Rattle.field.specs.Inner.{number_of, utf8_step, before_rule, after_rule, Suits}
+use Rattle.field.specs.declared.Rule.{Rule}
+use Rattle.field.specs.declared.Rule.TheVariants.{Iban, Lei, Bic, Date, Datetime, Amount, Country, Currency, Cents, CentsLenient}
 use Rattle.field.specs.declared.Way.{Way}
-use Rattle.field.specs.declared.Way.TheVariants.{RuleFirst, AdmittedFirst, Exempt, Unknown}
+use Rattle.field.specs.declared.Way.TheVariants.{RuleFirst, AdmittedFirst, Exempt}
 
 -- a number that no line of a table has
 pub no_line : {A : Type 0} (ks : List Kind) (d : A) (f : Kind → A) (n : ℕ) → (OneOf (map (λ k. k.number) ks) n → ⊥) → line_in ks d f n ≡ d
@@ -64,24 +66,22 @@ module _ (n : ℕ) where
       (line 10 (λ s. refl, low-ascii _ lenient_low) (λ u. absurd (omega arith))))))))))
       l
 
--- what suits a kind whose rule is asked first, in its two parts: so the check finds them by itself
-pub admitted_text : (n : ℕ) (s : List ℕ) → 2 ≤ n → n ≤ 10 → admission n s ≡ limit_step s and_then utf8_step s
-admitted_text n s l h = (rule_first n l h).0 s
-
-pub accepts_ascii : (n : ℕ) (s : List ℕ) (m : ℕ) → 2 ≤ n → n ≤ 10 → rule_of n s ≡ Accepted m → ascii s ≡ true
-accepts_ascii n s m l h = (rule_first n l h).1 s m
+-- every rule but the IBAN's
+pub rule_suits : (r : Rule) → (r ≡ Iban → ⊥) → Suits RuleFirst (number_of r)
+rule_suits Iban n = absurd (n refl)
+rule_suits Lei n = rule_first 2 (omega arith) (omega arith)
+rule_suits Bic n = rule_first 3 (omega arith) (omega arith)
+rule_suits Date n = rule_first 4 (omega arith) (omega arith)
+rule_suits Datetime n = rule_first 5 (omega arith) (omega arith)
+rule_suits Amount n = rule_first 6 (omega arith) (omega arith)
+rule_suits Country n = rule_first 7 (omega arith) (omega arith)
+rule_suits Currency n = rule_first 8 (omega arith) (omega arith)
+rule_suits Cents n = rule_first 9 (omega arith) (omega arith)
+rule_suits CentsLenient n = rule_first 10 (omega arith) (omega arith)
 
 pub iban_admitted_first : Suits AdmittedFirst 1
 unfolding admission ◌and_then◌
 iban_admitted_first s = refl
-
-pub no_rule : (n : ℕ) (s : List ℕ) → (OneOf (map (λ k. k.number) kinds) n → ⊥) → Refused (UnknownKind n) 1 ≡ rule_of n s
-unfolding rule_of ◌or_accept◌
-no_rule n s h = sym (no_line kinds _ (λ k. k.rule s) n h)
-
-pub unlisted : (n : ℕ) → (OneOf (map (λ k. k.number) kinds) n → ⊥) → Suits Unknown n
-unfolding check_field admission rule_of ◌and_then◌ ◌or_accept◌
-unlisted n h s = rw (no_line kinds false (λ k. true) n h, no_line kinds _ (λ k. k.rule s) n h)
 
 -- What the rule of a kind other than the IBAN's accepts is ASCII: an unknown kind's rule accepts nothing.
 pub ruled : (n : ℕ) (s : List ℕ) (m : ℕ) → n ≢ 1 → rule_of n s ≡ Accepted m → ascii s ≡ true
@@ -123,12 +123,25 @@ any_order RuleFirst n s h =
     rw (h.0 s) (late_step (limit_step s) (utf8_step s) (rule_of n s) (λ m e. rw (eq-eqb _ _ (ascii_prefix s (h.1 s m e)))))
 any_order AdmittedFirst n s h = rw (h s, late_pass)
 any_order Exempt n s h = rw (h s, late_pass)
-any_order Unknown n s h = late_pass (rule_of n s) ∙ h s
+
+-- a kind that no line of the table has
+pub unknown_refuses : (n : ℕ) (s : List ℕ) → known n ≡ false → Refused (UnknownKind n) 1 ≡ check_field n s
+unfolding check_field admission ◌and_then◌
+unknown_refuses n s h = rw h
 
 -- so the answer is the rule's where the steps before it pass, with the step after a refusal; and else that of the step that stopped
 module _ (w : Way) (n : ℕ) (s : List ℕ) {b : Step} (h : Suits w n) (e : b ≡ before_rule w s) where
-  pub taken : {a x : Answer} → b ≡ Pass → a ≡ rule_of n s → a ≡ x → late (after_rule w s) x ≡ check_field n s
-  taken p q t = rw (← e, p, ← q, t) at (any_order w n s h)
-
-  pub refused : {r : Reason} {k : ℕ} → b ≡ Stop r k → Refused r k ≡ check_field n s
+  pub refused : {x : Refusal} → b ≡ Err x → Err x ≡ check_field n s
   refused p = rw (← e, p) at (any_order w n s h)
+
+  module _ {a : Answer} (p : b ≡ Pass) (q : a ≡ rule_of n s) where
+    pub accepted : (m : ℕ) → a ≡ Accepted m → Accepted m ≡ check_field n s
+    accepted m t = rw (← e, p, ← q, t) at (any_order w n s h)
+
+    pub late_refused : {x y : Refusal} {u : Step} → a ≡ Err x → u ≡ after_rule w s → u ≡ Err y → Err y ≡ check_field n s
+    unfolding ◌and_then◌ ◌or_accept◌
+    late_refused t v z = rw (← e, p, ← q, t, ← v, z) at (any_order w n s h)
+
+    pub rule_refused : {x : Refusal} {u : Step} → a ≡ Err x → u ≡ after_rule w s → u ≡ Pass → Err x ≡ check_field n s
+    unfolding ◌and_then◌ ◌or_accept◌
+    rule_refused t v z = rw (← e, p, ← q, t, ← v, z) at (any_order w n s h)

@@ -34,9 +34,9 @@ utf8_step s = must (eqb (valid_prefix s) (length s)) (NotUtf8 (valid_prefix s)) 
 
 -- the steps of the admission that are asked before the rule
 abbrev pub before_rule : Way → List ℕ → Step
-before_rule RuleFirst s = limit_step s and_then Pass
+before_rule RuleFirst s = limit_step s
 before_rule AdmittedFirst s = limit_step s and_then utf8_step s
-before_rule Exempt s = limit_step s and_then Pass
+before_rule Exempt s = limit_step s
 
 -- and the one that is asked after the rule has refused
 abbrev pub after_rule : Way → List ℕ → Step
