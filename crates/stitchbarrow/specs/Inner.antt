@@ -1,13 +1,10 @@
 -- Definitions that only inner functions of `stitchbarrow` cite: a reader of the promises can pass over them.
-use Rattle.std.specs.Prelude.{ℕ, List}
-use Rattle.sheet.specs.Load.{load_of}
-use Rattle.repairs.specs.Repairs.{repair_of}
+use Rattle.std.specs.Prelude.{ℕ, ◌≡◌, List}
 use Rattle.sheet.specs.declared.Sheet.{Sheet}
 use Rattle.sheet.specs.declared.Repaired.{Repaired}
-use Rattle.stitchbarrow.specs.declared.Call.{Call}
-use Rattle.stitchbarrow.specs.declared.Call.TheVariants.{Load, Repair}
+use Rattle.stitchbarrow.specs.Sheets.{sheet_at}
+use Rattle.stitchbarrow.specs.Reply.{SheetReply, sheet_reply}
 
--- a load of a field into a sheet, or a repair of it
-abbrev pub made_of : Call → List ℕ → Sheet → Repaired
-made_of (Load kind) value old = load_of kind value old
-made_of (Repair request) value old = repair_of old request
+-- What a call on a sheet replies, where `made` says what the call makes of a sheet: whatever function gives that, the reply is of that function.
+abbrev pub Replies : (Sheet → Repaired → Type 0) → List ℕ → List ℕ → SheetReply → Type 0
+Replies made sheet answer r = (f : Sheet → Repaired) → ((s : Sheet) (d : Repaired) → made s d → d ≡ f s) → r ≡ sheet_reply (f (sheet_at sheet)) sheet answer

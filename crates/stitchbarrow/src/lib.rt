@@ -17,18 +17,10 @@ ghost use Rattle.stitchbarrow.specs.Reply.{
   SheetReply,
   sheet_reply,
 };
-ghost use Rattle.stitchbarrow.specs.Inner.{made_of};
+ghost use Rattle.stitchbarrow.specs.Inner.{Replies};
 
 use answer::Answer;
-use repairs::Request;
 use sheet::{Repaired, Sheet};
-
-// What is asked of a sheet: to load a field of a kind, or to be repaired.
-#[derive(Clone, Copy)]
-enum Call {
-    Load { kind: u16 },
-    Repair { request: Request },
-}
 
 // What a function returns where a lent slice is too short for what it would write.
 const TOO_SHORT: u8 = 255;
@@ -77,8 +69,7 @@ pub fn stitchbarrow_run(
     counts[0] = ran.judged;
     counts[1] = ran.read as u64;
     counts[2] = ran.written as u64;
-    let stop = ran.stop;
-    stop.number()
+    ran.stop.number()
 }
 
 fn read_sheet(b: &[u8]) -> Sheet
@@ -105,23 +96,13 @@ fn write_sheet(b: &mut [u8], s: Sheet)
     record::write_number(&mut b[0..2], s.kind as u64);
     record::write_number(&mut b[2..4], s.length as u64);
     record::write_number(&mut b[4..12], s.remainder);
-    let text = s.text;
-    b[12..46].copy_from_slice(&text);
+    b[12..46].copy_from_slice(&s.text);
 }
 
-fn made(call: Call, value: &[u8], old: Sheet) -> Repaired
-    ensures { result ≡ made_of call value.now old }
-{
-    match call {
-        Call::Load { kind } => sheet::load(kind, value, old),
-        Call::Repair { request } => repairs::repair(old, request),
-    }
-}
-
-// Makes a call on the sheet that the first 46 bytes of `sheet` write, and writes the new sheet there and the answer to `answer`. Only a load
-// reads `value`.
-fn reply(call: Call, value: &[u8], sheet: &mut [u8], answer: &mut [u8]) -> u8
-    ensures { record { code = result; sheet = sheet.new; answer = answer.new } ≡ sheet_reply (made_of call value.now (sheet_at sheet.old)) sheet.old answer.old }
+// Makes a call on the sheet that the first 46 bytes of `sheet` write, and writes the new sheet there and the answer to `answer`.
+fn reply<F: FnOnce(Sheet) -> Repaired>(call: F, sheet: &mut [u8], answer: &mut [u8]) -> u8
+    requires { F.IsAlwaysCallable call }
+    ensures { Replies (F.post call) sheet.old answer.old (record { code = result; sheet = sheet.new; answer = answer.new }) }
 {
     if sheet.len() < SHEET_SIZE {
         return TOO_SHORT;
@@ -129,40 +110,35 @@ fn reply(call: Call, value: &[u8], sheet: &mut [u8], answer: &mut [u8]) -> u8
     if answer.len() < ANSWER_SIZE {
         return TOO_SHORT;
     }
-    let done = made(call, value, read_sheet(sheet));
-    let new = done.sheet;
-    let a = done.answer;
-    write_sheet(sheet, new);
-    tell(a, answer)
+    let done = call(read_sheet(sheet));
+    write_sheet(sheet, done.sheet);
+    tell(done.answer, answer)
 }
 
 // Loads a field; the sheet that stood there before is the one that a refusal returns.
 pub fn stitchbarrow_load(kind: u16, value: &[u8], sheet: &mut [u8], answer: &mut [u8]) -> u8
     ensures { record { code = result; sheet = sheet.new; answer = answer.new } ≡ sheet_reply (load_of kind value.now (sheet_at sheet.old)) sheet.old answer.old }
 {
-    reply(Call::Load { kind }, value, sheet, answer)
+    reply(|old| sheet::load(kind, value, old), sheet, answer)
 }
 
 // Puts a byte at a place of the held text.
 pub fn stitchbarrow_replace(sheet: &mut [u8], place: usize, byte: u8, answer: &mut [u8]) -> u8
     ensures { record { code = result; sheet = sheet.new; answer = answer.new } ≡ sheet_reply (repair_of (sheet_at sheet.old) (Request.Replace place byte)) sheet.old answer.old }
 {
-    let request = Request::Replace { place, byte };
-    reply(Call::Repair { request }, b"", sheet, answer)
+    reply(|old| repairs::replace(old, place, byte), sheet, answer)
 }
 
 // Exchanges the characters at two places of the held text.
 pub fn stitchbarrow_exchange(sheet: &mut [u8], i: usize, j: usize, answer: &mut [u8]) -> u8
     ensures { record { code = result; sheet = sheet.new; answer = answer.new } ≡ sheet_reply (repair_of (sheet_at sheet.old) (Request.Exchange i j)) sheet.old answer.old }
 {
-    let request = Request::Exchange { i, j };
-    reply(Call::Repair { request }, b"", sheet, answer)
+    reply(|old| repairs::exchange(old, i, j), sheet, answer)
 }
 
 // Sets the check digits of the held text.
 pub fn stitchbarrow_fill(sheet: &mut [u8], answer: &mut [u8]) -> u8
     ensures { record { code = result; sheet = sheet.new; answer = answer.new } ≡ sheet_reply (repair_of (sheet_at sheet.old) Request.Fill) sheet.old answer.old }
 {
-    let request = Request::Fill;
-    reply(Call::Repair { request }, b"", sheet, answer)
+    reply(|old| repairs::fill(old), sheet, answer)
 }

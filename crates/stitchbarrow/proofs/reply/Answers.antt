@@ -6,14 +6,15 @@ use Rattle.stitchbarrow.proofs.Replies.{short-sheet, short-answer, both_written}
 use Rattle.stitchbarrow.proofs.reply.Goals as goal
 
 pub returns-then-sheet-lt-SHEET_SIZE : goal.returns-then-sheet-lt-SHEET_SIZE
-returns-then-sheet-lt-SHEET_SIZE c = short-sheet _ _ _ (omega arith)
+returns-then-sheet-lt-SHEET_SIZE g c f h = short-sheet _ _ _ (omega arith)
 
 pub returns-then-answer-lt-ANSWER_SIZE : goal.returns-then-answer-lt-ANSWER_SIZE
-returns-then-answer-lt-ANSWER_SIZE c = short-answer _ _ _ (omega arith) (omega arith)
+returns-then-answer-lt-ANSWER_SIZE g c f h = short-answer _ _ _ (omega arith) (omega arith)
 
 pub returns : goal.returns
 unfolding handed answer_reply
-returns c =
+returns g c f h =
     let a = c.tell.ensures in
-    rw (c.write_sheet.ensures, ap (λ (x : Reply). x.code) a, ap (λ (x : Reply). x.bytes) a, c.made-done.ensures, c.read_sheet.ensures)
+    let d = h _ _ c.call-done.ensures in
+    rw (c.write_sheet.ensures, ap (λ (x : Reply). x.code) a, ap (λ (x : Reply). x.bytes) a, d, c.read_sheet.ensures)
     (both_written _ _ _ (omega arith) (omega arith))
