@@ -53,6 +53,7 @@ module _ (x after : ℕ) (out₀ out : List ℕ) (w r : ℕ) (small : x < 2 ^ 64
             ∙ simp (append_assoc, length-append, ← width, add-one);
       }
 
+-- a field's length and its writing
 pub ruleset fields = (length-field, written_length, field_put)
 
 -- what is left of a buffer, as `&mut out[n..]` lends it
@@ -110,4 +111,5 @@ module _ (stop judged read : ℕ) (out : List ℕ) where
       rw (le-ltb (length out) last_most h)
       (rw (append_assoc (named (bytes_of "stop ") stop 32) (named (bytes_of "judged ") judged 32) (named (bytes_of "read ") read 10)) at (put_start p))
 
+-- a word and the number after it
 pub ruleset parts = (field-most, put_word, next-room, next)

@@ -11,6 +11,7 @@ use borrow.Rule.Slice.PartMut.{put_mid}
 use lib.Dec.{ltb}
 use lib.ListN.{length, take, drop, length-append, length-drop}
 use lib.Seq.{take_at, drop_at, drop-append-le, drop-drop}
+use Rattle.std.proofs.lemmas.List.{nil_from_length}
 use Rattle.record.specs.Number.{Bytes}
 use Rattle.record.proofs.Numbers.{bytes_drop}
 use Rattle.verdict.specs.Verdict.{verdict_size, read_verdict}
@@ -52,14 +53,10 @@ pub line_front : (v w : List ℕ) → verdict_size ≤ length v → verdict_line
 unfolding verdict_line
 line_front v w h = rw (read-front v w h)
 
-no_bytes : (v : List ℕ) → length v ≡ 0 → v ≡ []
-no_bytes [] h = refl
-no_bytes (x ∷ v) h = absurd (omega arith)
-
 -- the lines of verdicts and then of others
 pub text-append : (j k : ℕ) (v w : List ℕ) → length v ≡ verdict_size * j → verdict_lines (j + k) (v ++ w) ≡ verdict_lines j v ++ verdict_lines k w
 unfolding verdict_lines
-text-append zero k v w h = rw (zero-add, no_bytes v (omega arith))
+text-append zero k v w h = rw (zero-add, nil_from_length v (omega arith))
 text-append (suc j) k v w h =
     let e : suc j + k ≡ suc (j + k) = omega arith in
     rw (
@@ -254,3 +251,6 @@ module _ (v out₀ out left : List ℕ) (k at : ℕ) (g : Lining v out₀ out k 
           wrote = rw (add-one, text_snoc, ← g.is, ← row_line) (next (verdict_lines k v) row fits g.wrote p);
           rest = g.rest ∙ rw (a, f, b, e) (omega arith);
         }
+
+-- where a line has room, and where none has
+pub ruleset rooms = (line-requires, no_room)

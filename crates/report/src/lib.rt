@@ -65,6 +65,7 @@ fn put_line(out: &mut [u8], v: Verdict) -> usize
 }
 
 // The lines of the verdicts at the start of a buffer, as long as there is room for the longest line.
+#[tactic(auto, using(crate::proofs::Texts::rooms))]
 pub fn lines(verdicts: &[u8], out: &mut [u8]) -> Rendered
     ensures { rendering_of result out.new ≡ rendered verdicts.now out.old }
 {
