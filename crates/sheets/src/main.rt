@@ -5,7 +5,7 @@
 use sheet::{Repaired, Sheet};
 use std::io;
 
-// Writes a call's result, and hands its sheet to the next call. Of a text with a forged length, past its end, nothing is written.
+// Writes a call's result, and hands its sheet to the next call. A forged length may be past the text: then no text is written.
 fn show(rt: &impl Print, call: &str, r: Repaired) -> io::Result<Sheet> {
     let answer = r.answer;
     let s = r.sheet;

@@ -86,7 +86,7 @@ fn unhex(word: &[u8], value: &mut [u8]) -> usize
     n
 }
 
-// One line: whether the answer to its field is the one expected.
+// One line: whether the answer to its field is the one expected. A kind counts modulo 2^16.
 fn replay(words: &mut Words, value: &mut [u8]) -> bool
     ensures { length words.new.left.now ≤ length words.old.left.now - 1 }
 {
