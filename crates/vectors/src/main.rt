@@ -52,15 +52,13 @@ impl<'a> Words<'a> {
             }
         }
     }
+}
 
-    // The number that the next word writes; one of 2^64 or more counts as 0.
-    fn number(&mut self) -> u64
-        ensures { length self.new.left.now ≤ length self.old.left.now - 1 }
-    {
-        match text::number_of(self.word()) {
-            Number::Fits(n) => n,
-            Number::Over => 0,
-        }
+// The number that a word writes; one of 2^64 or more counts as 0.
+fn number_in(word: &[u8]) -> u64 {
+    match text::number_of(word) {
+        Number::Fits(n) => n,
+        Number::Over => 0,
     }
 }
 
@@ -90,11 +88,11 @@ fn unhex(word: &[u8], value: &mut [u8]) -> usize
 fn replay(words: &mut Words, value: &mut [u8]) -> bool
     ensures { length words.new.left.now ≤ length words.old.left.now - 1 }
 {
-    let kind = (words.number() % 65536) as u16;
+    let kind = (number_in(words.word()) % 65536) as u16;
     let expected = Expected {
-        answer: words.number(),
-        place: words.number(),
-        number: words.number(),
+        answer: number_in(words.word()),
+        place: number_in(words.word()),
+        number: number_in(words.word()),
     };
     let n = unhex(words.word(), value);
     expected.met_by(field::check_field(kind, &value[..n]))
