@@ -3,9 +3,7 @@
 
 ghost use Rattle.std.specs.Prelude.{◌≡◌, MatchOption};
 ghost use Rattle.report.specs.Offset.{offset_of};
-ghost use Rattle.report.specs.declared.Offset.{Offset};
 
-use report::Offset;
 use std::env::{Env, FillError};
 
 // The bytes that an argument can have.
@@ -19,34 +17,33 @@ fn refuse(rt: &impl Eprint) {
 }
 
 // The stream offset of the first byte: what the argument writes, and 0 where there is none.
-fn offset_in(word: Option<&[u8]>) -> Offset
-    ensures { MatchOption word.entry (result ≡ Offset.Is 0) (λ w. result ≡ offset_of w.now) }
+fn offset_in(word: Option<&[u8]>) -> Option<u64>
+    ensures { MatchOption word.entry (result ≡ Some 0) (λ w. result ≡ offset_of w.now) }
 {
     match word {
         Some(w) => report::parse(w),
-        None => Offset::Is(0),
+        None => Some(0),
     }
 }
 
 // The same from the system's arguments; none where there are two, or one that does not fit.
-fn start_of(rt: &HostRuntime) -> Offset {
+fn start_of(rt: &HostRuntime) -> Option<u64> {
     let mut word = [0u8; WORD_MOST];
-    match rt.arg(2, &mut word) {
-        Err(FillError::NotPresent) => {}
-        _ => return Offset::Not,
+    if !matches!(rt.arg(2, &mut word), Err(FillError::NotPresent)) {
+        return None;
     }
     match rt.arg(1, &mut word) {
         Ok(n) => offset_in(Some(&word[..n])),
-        Err(FillError::TooLong) => Offset::Not,
+        Err(FillError::TooLong) => None,
         Err(FillError::NotPresent) => offset_in(None),
     }
 }
 
 fn main(rt: HostRuntime) {
     match start_of(&rt) {
-        Offset::Is(start) => {
+        Some(start) => {
             service::run_from(&rt, &mut rt.stdin(), &mut rt.stdout(), start);
         }
-        Offset::Not => refuse(&rt),
+        None => refuse(&rt),
     }
 }

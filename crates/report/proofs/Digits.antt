@@ -1,14 +1,15 @@
--- Laws of a number's digits: below 10 there is one, from 10 on the last follows those of the tenth part; how many there are, and their writing.
-use Prim.Native.Nat.{ℕ, zero, suc, ◌+◌, ◌-◌, ◌*◌, ◌/◌, ◌%◌, ◌^◌, ◌≤◌, ◌<◌}
+-- Laws of a number's digits: below 10 there is one, from 10 on the last follows those of the tenth part; how many there are, and what writes them.
+use Prim.Native.Nat.{ℕ, zero, suc, ◌+◌, ◌*◌, ◌/◌, ◌%◌, ◌^◌, ◌≤◌, ◌<◌}
 use mathlib.Core.Path.{◌≡◌, refl, sym, ap, ◌∙◌}
 use mathlib.Core.Bool.{Bool, true, false}
-use mathlib.Core.List.{List, [], ◌∷◌, ◌++◌, append_assoc, append-nil}
+use mathlib.Core.List.{[], ◌∷◌, ◌++◌}
 use native.Mathlib.Nat.{pow-suc}
 use native.Mathlib.Omega.{arith}
 use borrow.Author.Tests.{lt-ltb, le-ltb, ltb-true, ltb-false}
 use lib.Dec.{ltb}
-use lib.ListN.{length, drop, set, length-append, length-set}
-use lib.Seq.{drop-length, drop-cons, drop-set-lt, get_or-set_same, set_split}
+use lib.ListN.{length, length-append}
+use Rattle.std.specs.Fmt.{decimal}
+use Rattle.std.proofs.lemmas.Fmt.{decimal_by_steps}
 use Rattle.report.specs.Digits.{decimal_digits_in, decimal_digits}
 
 -- the bound on the steps does not matter once it is enough
@@ -66,38 +67,23 @@ most (suc k) x h =
     go i true e = rw (one x (ltb-true x 10 e)) (omega arith)
     go i false e = rw (one_more x (ltb-false x 10 e)) (omega arith)
 
--- the digits of what is left, and then those that are written
-pub record Spelling (x : ℕ) (d : List ℕ) (i rest : ℕ) : Type 0 where
-  pub left : i ≡ length (decimal_digits rest)
-  pub size : length d ≡ length (decimal_digits x)
-  pub is : decimal_digits x ≡ decimal_digits rest ++ drop i d
+-- and one from that power on has more
+pub more_than : (k x : ℕ) → 10 ^ k ≤ x → suc k ≤ length (decimal_digits x)
+more_than zero x h = least x
+more_than (suc k) x h =
+    let p : 10 ^ suc k ≡ 10 ^ k * 10 = pow-suc 10 k in
+    let q : 1 ≤ 10 ^ k = pow-pos k in
+    omega (arith, more_than k (x / 10) (omega arith), one_more x (omega arith))
+  where
+    pow-pos : (k : ℕ) → 1 ≤ 10 ^ k
+    pow-pos zero = omega arith
+    pow-pos (suc k) = omega (arith, pow-pos k, pow-suc 10 k)
 
-pub spell_start : (x : ℕ) (d : List ℕ) → length d ≡ length (decimal_digits x) → Spelling x d (length d) x
-spell_start x d h =
-    record { left = h; size = h; is = rw (drop-length d) (sym (append-nil (decimal_digits x))) }
+-- how many digits there are, by the powers of ten between which the number stands
+pub count : (k x : ℕ) → 10 ^ k ≤ x → x < 10 * 10 ^ k → k + 1 ≡ length (decimal_digits x)
+count k x h l = omega (arith, more_than k x h, most k x (omega (arith, pow-suc 10 k)))
 
-module _ (x : ℕ) (d : List ℕ) (i rest : ℕ) (g : Spelling x d i rest) where
-  pub spell_inside : (1 ≤ i) × (i ≤ length d)
-  spell_inside =
-      let a = length-append (decimal_digits rest) (drop i d) in
-      (omega (arith, least rest, g.left), omega (arith, g.left, g.size, a, ap length g.is))
-
-  -- one digit more
-  pub spell_on : 10 ≤ rest → Spelling x (set d (i - 1) (48 + rest % 10)) (i - 1) (rest / 10)
-  spell_on h =
-      let k : suc (i - 1) ≡ i = omega (arith, spell_inside) in
-      let b : ℕ = 48 + rest % 10 in
-      let w : drop (i - 1) (set d (i - 1) b) ≡ b ∷ drop i d =
-      drop-cons (set d (i - 1) b) (i - 1) 0 (rw length-set (omega (arith, spell_inside)))
-      ∙ rw (get_or-set_same d (i - 1) b 0 (omega (arith, spell_inside)), drop-set-lt (suc (i - 1)) d (i - 1) b (omega arith), k) in
-      record {
-        left = omega (arith, g.left, one_more rest h);
-        size = rw length-set g.size;
-        is = g.is ∙ rw (more rest h, append_assoc, w);
-      }
-
-  -- the first digit, the last to be written
-  pub spell_end : rest < 10 → set d 0 (48 + rest) ≡ decimal_digits x
-  spell_end h =
-      let e : i ≡ 1 = g.left ∙ one rest h in
-      set_split d 0 (48 + rest) (omega (arith, spell_inside)) ∙ sym (g.is ∙ rw (small rest h, e))
+-- what the kit writes of a number
+pub written : (x : ℕ) → x < 2 ^ 64 → decimal x ≡ decimal_digits x
+written =
+    decimal_by_steps (λ x ds. ds ≡ decimal_digits x) (λ x h. sym (small x h)) (λ x ds h e. rw e (sym (more x h)))

@@ -6,6 +6,7 @@ use mathlib.Core.List.{List, [], ◌∷◌, ◌++◌}
 use native.Mathlib.Omega.{arith}
 use lib.Dec.{T}
 use lib.ListN.{length, get_or, get_or-append}
+use Rattle.std.proofs.Common.{Some}
 use Rattle.answer.specs.Table as answer
 use Rattle.answer.specs.Result.{Answer}
 use Rattle.text.specs.Class.{is_digit}
@@ -16,12 +17,11 @@ use Rattle.text.proofs.Near.{Small}
 use Rattle.text.proofs.Ranges.{both_parts, both_of}
 use Rattle.verdict.specs.Verdict.{verdict, read_verdict, saying}
 use Rattle.verdict.proofs.Verdicts.{read-verdict}
-use Rattle.report.specs.declared.Offset.TheVariants.{Is}
 use Rattle.report.specs.Digits.{decimal_digits}
 use Rattle.report.specs.Offset.{digits_only, offset_of}
 use Rattle.report.specs.Text.{numbers_line, verdict_line}
 use Rattle.report.proofs.Digits.{small, more, by_tens, least, most}
-use Rattle.report.proofs.Arguments.{only_passes, only_most, given}
+use Rattle.report.proofs.Arguments.{only_most, given}
 
 one_digit : (d : ℕ) → number_written ((48 + d) ∷ []) ≡ d
 unfolding number_written decimal
@@ -55,12 +55,12 @@ no_zero =
 -- and no digits that write a number are fewer
 pub fewest : (t : List ℕ) → T (digits_only t) → 1 ≤ length t → length (decimal_digits (number_written t)) ≤ length t
 fewest [] p h = absurd (omega arith)
-fewest (b ∷ t) p h = most (length t) (number_written (b ∷ t)) (only_most (b ∷ t) 0 p)
+fewest (b ∷ t) p h = most (length t) (number_written (b ∷ t)) (only_most (b ∷ t) p)
 
 -- the argument that a number's digits are is that number
-pub argument : (x : ℕ) → x < 2 ^ 64 → offset_of (decimal_digits x) ≡ Is x
+pub argument : (x : ℕ) → x < 2 ^ 64 → offset_of (decimal_digits x) ≡ Some x
 argument x h =
-    given (decimal_digits x) 0 (λ z. omega (arith, least x)) (only_passes (decimal_digits x) 0 (digits_only_lem x))
+    given (decimal_digits x) (least x) (digits_only_lem x)
     ∙ rw (reads_back x, ← fits x h)
 
 -- the line of a verdict that says these numbers

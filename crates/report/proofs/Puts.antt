@@ -1,54 +1,26 @@
--- Laws of what is written into a buffer: one text after another, a byte after a text, and the digits and the byte of a field.
+-- Laws of what is written at the start of a buffer: a number and its byte, a text in the rest after another, a row, a named number.
 use Prim.Native.Nat.{ℕ, suc, ◌+◌, ◌-◌, ◌^◌, ◌≤◌, ◌<◌}
 use mathlib.Core.Path.{◌≡◌, refl, sym, ap, ◌∙◌}
-use mathlib.Core.List.{List, [], ◌∷◌, ◌++◌, append_assoc}
-use native.Mathlib.Nat.{add_assoc, zero-add}
+use mathlib.Core.List.{List, [], ◌∷◌, ◌++◌, append_assoc, append-nil}
 use native.Mathlib.Numerals.{add-one}
 use native.Mathlib.Omega.{arith}
 use borrow.Author.Tests.{lt-ltb, le-ltb}
-use lib.ListN.{length, get_or, take, drop, set, length-append, length-drop}
-use lib.Seq.{take_at, set_at, sets-eq, drop-cons, drop-drop, drop-append-add, length-take-le}
+use borrow.Rule.Slice.PartMut.{put_mid}
+use lib.ListN.{length, get_or, take, drop, set, length-append, length-drop, drop_of_length-le}
+use lib.Seq.{take_at, drop_at, set_at, drop-cons, drop-drop, take-length}
+use Rattle.std.specs.Fmt.{decimal}
 use Rattle.text.specs.Quote.{bytes_of}
 use Rattle.report.specs.Digits.{decimal_digits}
-use Rattle.report.specs.Text.{field, numbers_line, named, last_line, at_start, last_most, placed, ended}
-use Rattle.report.specs.Inner.{put, Put}
-use Rattle.report.proofs.Digits.{small, most}
+use Rattle.verdict.specs.declared.Verdict.{Verdict}
+use Rattle.report.specs.Text.{field, numbers, numbers_line, named, last_line, at_start, last_most, placed, ended}
+use Rattle.report.specs.Inner.{Put}
+use Rattle.report.proofs.Digits.{most, written}
 
-pub length-put : (at : ℕ) (t out : List ℕ) → at + length t ≤ length out → length (put at t out) ≡ length out
-length-put at t out h = simp (length-append, length-drop, length-take-le at out (omega arith)) (omega arith)
+pub length-put : {t out₀ out : List ℕ} {n : ℕ} → length t ≤ length out₀ → Put t out₀ out n → length out ≡ length out₀
+length-put {t} {out₀} h p = ap length p.is ∙ simp (length-append, length-drop) (omega arith)
 
--- what is written after what was written
-pub put-put : (at : ℕ) (s t out : List ℕ) → at + length s ≤ length out → put (at + length s) t (put at s out) ≡ put at (s ++ t) out
-put-put at s t out h =
-    let p : List ℕ = take at out ++ s in
-    let q : List ℕ = drop (at + length s) out in
-    let lp : length p ≡ at + length s = length-append (take at out) s ∙ rw (length-take-le at out (omega arith)) in
-    let o : put at s out ≡ p ++ q = sym (append_assoc (take at out) s q) in
-    let dr : drop (at + length s + length t) (p ++ q) ≡ drop (length t) q =
-    ap (λ (n : ℕ). drop (n + length t) (p ++ q)) (sym lp) ∙ drop-append-add p q (length t) in
-    rw (o, take_at p q (at + length s) lp, dr) (simp (append_assoc, length-append, drop-drop, add_assoc))
-
-put_byte : (at : ℕ) (t out : List ℕ) (b : ℕ) → at + length t < length out → set (put at t out) (at + length t) b ≡ put at (t ++ (b ∷ [])) out
-put_byte at t out b h =
-    let p : List ℕ = take at out ++ t in
-    let lp : length p ≡ at + length t = length-append (take at out) t ∙ rw (length-take-le at out (omega arith)) in
-    let c : drop (at + length t) out ≡ get_or out (at + length t) 0 ∷ drop (suc (at + length t)) out = drop-cons out (at + length t) 0 h in
-    let o : put at t out ≡ p ++ (get_or out (at + length t) 0 ∷ drop (suc (at + length t)) out) =
-    sym (append_assoc (take at out) t (drop (at + length t) out)) ∙ rw c in
-    ap (λ (l : List ℕ). set l (at + length t) b) o ∙ set_at p _ _ b (at + length t) lp
-    ∙ simp (append_assoc, length-append, ← add_assoc, add-one)
-
-pub then : (at : ℕ) (s t out₀ out₁ out₂ : List ℕ) (a b : ℕ) → at + length s ≤ length out₀ → Put at s out₀ out₁ a → Put a t out₁ out₂ b
-    → Put at (s ++ t) out₀ out₂ b
-then at s t out₀ out₁ out₂ a b h p q =
-    record {
-      end = omega (arith, p.end, q.end, length-append s t);
-      is = q.is ∙ rw (p.end, p.is) (put-put at s t out₀ h);
-    }
-
--- from the start on
-pub put-start : (t out₀ out : List ℕ) (r : ℕ) → Put 0 t out₀ out r → placed r out ≡ placed (length t) (at_start t out₀)
-put-start t out₀ out r p = rw (p.end, p.is, zero-add (length t))
+pub put_start : {t out₀ out : List ℕ} {n : ℕ} → Put t out₀ out n → placed n out ≡ placed (length t) (at_start t out₀)
+put_start p = rw (p.end, p.is)
 
 pub length-field : (x after : ℕ) → length (field x after) ≡ length (decimal_digits x) + 1
 unfolding field
@@ -57,105 +29,87 @@ length-field x after = length-append (decimal_digits x) (after ∷ [])
 pub field-most : (x after : ℕ) → x < 2 ^ 64 → length (field x after) ≤ 21
 field-most x after h = omega (arith, length-field x after, most 19 x (omega arith))
 
--- a part of a buffer, as `&mut out[at..end]` gives it back
-abbrev pub part_back : ℕ → ℕ → List ℕ → List ℕ → List ℕ
-part_back at n last out = take at out ++ (last ++ drop n (drop at out))
+pub written_length : (x : ℕ) → x < 2 ^ 64 → length (decimal x) ≡ length (decimal_digits x)
+written_length x h = ap length (written x h)
 
--- a field in a buffer
-module _ (at x after : ℕ) (out : List ℕ) (fits : at + length (field x after) ≤ length out) where
-  room : at + length (decimal_digits x) < length out
-  room = omega (arith, length-field x after)
+-- a number's digits, which end at their length, and the byte after them
+module _ (x after : ℕ) (out₀ out : List ℕ) (w r : ℕ) (small : x < 2 ^ 64) (fits : length (field x after) ≤ length out₀)
+    (width : w ≡ length (decimal_digits x)) (start : r + length (decimal x) ≡ w) (is : drop r out ≡ decimal x ++ drop w out₀) where
+  digits_put : out ≡ at_start (decimal_digits x) out₀
+  digits_put =
+      let z : r ≡ 0 = omega (arith, ap length (written x small)) in
+      rw z at is ∙ rw (written x small, width)
 
-  -- of one digit
-  pub field_one : x < 10 → Put at (field x after) out (set (set out at (48 + x)) (at + 1) after) (at + 2)
+  pub field_put : Put (field x after) out₀ (set out w after) (w + 1)
   unfolding field
-  field_one h =
-      let e : decimal_digits x ≡ (48 + x) ∷ [] = small x h in
+  field_put =
+      let l = length-field x after in
+      let c : drop w out₀ ≡ get_or out₀ w 0 ∷ drop (suc w) out₀ = drop-cons out₀ w 0 (omega arith) in
+      let o : out ≡ decimal_digits x ++ (get_or out₀ w 0 ∷ drop (suc w) out₀) = digits_put ∙ rw (← width, c) in
       record {
-        end = rw e;
-        is = rw (e, add-one) (sets-eq ((48 + x) ∷ after ∷ []) out at (rw e at fits) ∙ simp append_assoc);
+        end = omega (arith, l, width);
+        is =
+            ap (λ (o : List ℕ). set o w after) o ∙ set_at (decimal_digits x) _ _ after w (sym width)
+            ∙ simp (append_assoc, length-append, ← width, add-one);
       }
 
-  -- of several, whose place is lent
-  module _ (w : ℕ) (last : List ℕ) (h : w ≡ length (decimal_digits x)) (q : last ≡ decimal_digits x) where
-    mid : part_back at (at + w - at) last out ≡ put at (decimal_digits x) out
-    mid = let e : at + w - at ≡ length (decimal_digits x) = omega arith in rw (e, q) (simp drop-drop)
+-- a field's length and its writing
+pub ruleset fields = (length-field, written_length, field_put)
 
-    pub field-inside : at + w < length (part_back at (at + w - at) last out)
-    field-inside = rw (mid, h, length-put at (decimal_digits x) out (omega (arith, room))) room
+-- what is left of a buffer, as `&mut out[n..]` lends it
+abbrev pub rest_of : ℕ → List ℕ → List ℕ
+rest_of n out = take (length out - n) (drop n out)
 
-    pub field-more : Put at (field x after) out (set (part_back at (at + w - at) last out) (at + w) after) (at + w + 1)
-    unfolding field
-    field-more =
-        record {
-          end = omega (arith, h, length-append (decimal_digits x) (after ∷ []));
-          is = rw (mid, h) (put_byte at (decimal_digits x) out after room);
-        }
+pub front : (s t : List ℕ) {n : ℕ} → length (s ++ t) ≤ n → length s ≤ n
+front s t h = omega (arith, length-append s t)
 
--- a row has room, and is written number by number
-pub record Room (at : ℕ) (xs out : List ℕ) : Type 0 where
-  pub is : at + length (numbers_line xs) ≤ length out
+-- a text in the rest after another
+module _ (s t : List ℕ) {out₀ out : List ℕ} {n : ℕ} (fits : length (s ++ t) ≤ length out₀) (p : Put s out₀ out n) where
+  same : length out ≡ length out₀
+  same = length-put (front s t fits) p
 
-pub row_first : {at x y : ℕ} {xs out : List ℕ} → Room at (x ∷ y ∷ xs) out → at + length (field x 32) ≤ length out
+  rest_is : rest_of n out ≡ drop (length s) out₀
+  rest_is =
+      let d : drop n out ≡ drop (length s) out₀ = rw (p.end, p.is) (drop_at s (drop (length s) out₀) (length s) refl) in
+      let k : length out - n ≡ length (drop (length s) out₀) = omega (arith, same, length-drop (length s) out₀, p.end) in
+      rw (d, k) (take-length (drop (length s) out₀))
+
+  pub next-room : length t ≤ length (rest_of n out)
+  next-room = rw rest_is (omega (arith, length-append s t, length-drop (length s) out₀))
+
+  pub next : {last : List ℕ} {r : ℕ} → Put t (rest_of n out) last r → Put (s ++ t) out₀ (put_mid n (length out - n) out last) (n + r)
+  next {last} {r} q =
+      let f : take n out ≡ s = rw (p.is, p.end) (take_at s (drop (length s) out₀) (length s) refl) in
+      let z : drop (length out - n) (drop n out) ≡ [] = simp drop-drop (drop_of_length-le out (omega arith)) in
+      record {
+        end = omega (arith, p.end, q.end, length-append s t);
+        is = rw (f, q.is, z, rest_is) (simp (append_assoc, append-nil, drop-drop, length-append));
+      }
+
+-- a verdict's row is its fields, the last in the rest after the others
+pub row_is : (v : Verdict) (kind answer place : ℕ) → kind ≡ v.kind → answer ≡ v.answer → place ≡ v.place
+    → numbers_line (numbers v)
+    ≡ (((field v.offset 32 ++ field kind 32) ++ field answer 32) ++ field place 32) ++ field v.number 10
 unfolding numbers_line
-row_first {at} {x} {y} {xs} h = omega (arith, h.is, length-append (field x 32) (numbers_line (y ∷ xs)))
+row_is v kind answer place k a p = rw (k, a, p) (simp append_assoc)
 
-pub row_rest : {at x y a : ℕ} {xs out out₁ : List ℕ} → Room at (x ∷ y ∷ xs) out → Put at (field x 32) out out₁ a → Room a (y ∷ xs) out₁
-unfolding numbers_line
-row_rest {at} {x} {y} {a} {xs} {out} h p =
-    record {
-      is =
-          omega (
-            arith,
-            h.is,
-            length-append (field x 32) (numbers_line (y ∷ xs)),
-            p.end,
-            ap length p.is,
-            length-put at (field x 32) out (row_first h),
-          );
-    }
+-- a word that was copied
+pub put_word : (word out last : List ℕ) → last ≡ word → Put word out (last ++ drop (length word) out) (length word)
+put_word word out last e = record { end = refl; is = rw e }
 
-pub row_last : {at x : ℕ} {out : List ℕ} → Room at (x ∷ []) out → at + length (field x 10) ≤ length out
-unfolding numbers_line
-row_last h = h.is
-
-pub row-then : {at x y a b : ℕ} {xs out out₁ out₂ : List ℕ} → Room at (x ∷ y ∷ xs) out → Put at (field x 32) out out₁ a
-    → Put a (numbers_line (y ∷ xs)) out₁ out₂ b → Put at (numbers_line (x ∷ y ∷ xs)) out out₂ b
-unfolding numbers_line
-row-then h p q = then _ _ _ _ _ _ _ _ (row_first h) p q
-
--- a word that was copied into a part of just its length
-pub put_word : (at : ℕ) (word out last : List ℕ) → last ≡ word
-    → Put at word out (part_back at (at + length word - at) last out) (at + length word)
-put_word at word out last q =
-    let e : at + length word - at ≡ length word = omega arith in
-    record { end = refl; is = rw (e, q) (simp drop-drop) }
-
--- and the number after it
-module _ (at x after : ℕ) (word out out₁ : List ℕ) (small : x < 2 ^ 64) (fits : at + length word + 21 ≤ length out)
-    (p : Put at word out out₁ (at + length word)) where
-  pub named-room : at + length word + length (field x after) ≤ length out₁
-  named-room = omega (arith, field-most x after small, ap length p.is, length-put at word out (omega arith))
-
-  pub named_put : (out₂ : List ℕ) (r : ℕ) → Put (at + length word) (field x after) out₁ out₂ r
-      → Put at (named word x after) out out₂ r × (r ≤ at + length word + 21)
-  unfolding named
-  named_put out₂ r q =
-      (then at word (field x after) out out₁ out₂ (at + length word) r (omega arith) p q, omega (arith, field-most x after small, q.end))
-
--- the last line, where it has no room, and part by part where it has
+-- the last line, where it has no room, and its three parts where it has
 module _ (stop judged read : ℕ) (out : List ℕ) where
   pub no_last : length out < last_most → placed 0 out ≡ ended out stop judged read
   unfolding ended
   no_last h = rw (lt-ltb (length out) last_most h)
 
-  pub last_line_lem : (a b r : ℕ) (out₁ out₂ out₃ : List ℕ) → last_most ≤ length out
-      → Put 0 (named (bytes_of "stop ") stop 32) out out₁ a → a ≤ 0 + 5 + 21
-      → Put a (named (bytes_of "judged ") judged 32) out₁ out₂ b → b ≤ a + 7 + 21
-      → Put b (named (bytes_of "read ") read 10) out₂ out₃ r → placed r out₃ ≡ ended out stop judged read
+  pub last_put : {out₁ : List ℕ} {r : ℕ} → last_most ≤ length out
+      → Put ((named (bytes_of "stop ") stop 32 ++ named (bytes_of "judged ") judged 32) ++ named (bytes_of "read ") read 10) out out₁ r
+      → placed r out₁ ≡ ended out stop judged read
   unfolding ended last_line
-  last_line_lem a b r out₁ out₂ out₃ h p l q m s =
-      let f : 0 + length (named (bytes_of "stop ") stop 32) ≤ length out = omega (arith, p.end) in
-      let g : a + length (named (bytes_of "judged ") judged 32) ≤ length out₁ =
-      omega (arith, q.end, ap length p.is, length-put 0 (named (bytes_of "stop ") stop 32) out f) in
-      rw (le-ltb (length out) last_most h) (put-start _ out out₃ r (then 0 _ _ out out₁ out₃ a r f p (then a _ _ out₁ out₂ out₃ b r g q s)))
+  last_put h p =
+      rw (le-ltb (length out) last_most h)
+      (rw (append_assoc (named (bytes_of "stop ") stop 32) (named (bytes_of "judged ") judged 32) (named (bytes_of "read ") read 10)) at (put_start p))
+
+-- a word and the number after it
+pub ruleset parts = (field-most, put_word, next-room, next)

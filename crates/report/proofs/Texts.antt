@@ -1,17 +1,18 @@
 -- Laws of the lines: one line more, lines of verdicts and then of others, the longest line, how many have room, and the loop that writes them.
 use Prim.Native.Nat.{ℕ, zero, suc, ◌+◌, ◌-◌, ◌*◌, ◌/◌, ◌≤◌, ◌<◌}
-use mathlib.Core.Path.{◌≡◌, refl, ap, ◌∙◌}
+use mathlib.Core.Path.{◌≡◌, refl, sym, ap, ◌∙◌}
 use mathlib.Core.Bool.{Bool, true, false, cond}
 use mathlib.Core.List.{List, [], ◌∷◌, ◌++◌, append_assoc, append-nil}
 use native.Mathlib.Nat.{zero-add, sub-zero}
 use native.Mathlib.Numerals.{add-one}
 use native.Mathlib.Omega.{arith}
 use borrow.Author.Tests.{lt-ltb, le-ltb}
+use borrow.Rule.Slice.PartMut.{put_mid}
 use lib.Dec.{ltb}
 use lib.ListN.{length, take, drop, length-append, length-drop}
-use lib.Seq.{take_at, drop-append-le, drop-drop}
+use lib.Seq.{take_at, drop_at, drop-append-le, drop-drop}
+use Rattle.std.proofs.lemmas.List.{nil_from_length}
 use Rattle.record.specs.Number.{Bytes}
-use Rattle.record.proofs.Parts.{to_end}
 use Rattle.record.proofs.Numbers.{bytes_drop}
 use Rattle.verdict.specs.Verdict.{verdict_size, read_verdict}
 use Rattle.verdict.specs.declared.Verdict.{Verdict}
@@ -38,12 +39,7 @@ use Rattle.report.specs.Text.{
 }
 use Rattle.report.specs.Inner.{Put}
 use Rattle.report.proofs.Digits.{most}
-use Rattle.report.proofs.Puts.{length-field, then}
-
--- the row of what a verdict says is its line
-pub line_is : (d : Verdict) (v : List ℕ) → d ≡ read_verdict v → numbers_line (numbers d) ≡ verdict_line v
-unfolding verdict_line
-line_is d v e = ap (λ (x : Verdict). numbers_line (numbers x)) e
+use Rattle.report.proofs.Puts.{length-field, length-put, rest_of, next-room, next}
 
 pub text_snoc : (k : ℕ) (v : List ℕ) → verdict_lines (suc k) v ≡ verdict_lines k v ++ verdict_line (drop (verdict_size * k) v)
 unfolding verdict_lines
@@ -57,14 +53,10 @@ pub line_front : (v w : List ℕ) → verdict_size ≤ length v → verdict_line
 unfolding verdict_line
 line_front v w h = rw (read-front v w h)
 
-no_bytes : (v : List ℕ) → length v ≡ 0 → v ≡ []
-no_bytes [] h = refl
-no_bytes (x ∷ v) h = absurd (omega arith)
-
 -- the lines of verdicts and then of others
 pub text-append : (j k : ℕ) (v w : List ℕ) → length v ≡ verdict_size * j → verdict_lines (j + k) (v ++ w) ≡ verdict_lines j v ++ verdict_lines k w
 unfolding verdict_lines
-text-append zero k v w h = rw (zero-add, no_bytes v (omega arith))
+text-append zero k v w h = rw (zero-add, nil_from_length v (omega arith))
 text-append (suc j) k v w h =
     let e : suc j + k ≡ suc (j + k) = omega arith in
     rw (
@@ -171,71 +163,94 @@ module _ (r stop judged read : ℕ) (out₀ out : List ℕ) (is : placed r out �
           rw (ap (λ (x : Placed). x.written) e)
           (start-inside (last_line stop judged read) out₀ out (ap (λ (x : Placed). x.out) e) h)
 
--- the loop of `lines`: the first k lines are written, and as many more will be as have room after them
-pub record Lining (v out₀ out : List ℕ) (k i at : ℕ) : Type 0 where
-  pub place : i ≡ verdict_size * k
-  pub within : i ≤ length v
+-- the loop of `lines`: the first k lines are written, and of the verdicts that are left as many more will be as have room after them
+pub record Lining (v out₀ out : List ℕ) (k at : ℕ) (left : List ℕ) : Type 0 where
+  pub is : left ≡ drop (verdict_size * k) v
+  pub within : verdict_size * k ≤ length v
   pub room : at ≤ length out₀
-  pub same : length out ≡ length out₀
-  pub wrote : Put 0 (verdict_lines k v) out₀ out at
+  pub wrote : Put (verdict_lines k v) out₀ out at
   pub rest : fitting (length v / verdict_size) (length out₀) v
-      ≡ k + fitting (length v / verdict_size - k) (length out₀ - at) (drop i v)
+      ≡ k + fitting (length v / verdict_size - k) (length out₀ - at) left
 
-pub start_lines : (v out : List ℕ) → Lining v out out 0 0 0
+pub start_lines : (v out : List ℕ) → Lining v out out 0 0 v
 unfolding verdict_lines
 start_lines v out =
     record {
-      place = refl;
+      is = refl;
       within = omega arith;
       room = omega arith;
-      same = refl;
       wrote = record { end = refl; is = refl };
       rest = simp (sub-zero, zero-add);
     }
 
-module _ (v out₀ out : List ℕ) (k i at : ℕ) (g : Lining v out₀ out k i at) where
-  end_lines : fitting (length v / verdict_size - k) (length out₀ - at) (drop i v) ≡ 0
+module _ (v out₀ out left : List ℕ) (k at : ℕ) (g : Lining v out₀ out k at left) where
+  end_lines : fitting (length v / verdict_size - k) (length out₀ - at) left ≡ 0
       → rendering_of (record { verdicts = k; written = at }) out ≡ rendered v out₀
   unfolding rendered
   end_lines z =
       let e : fitting (length v / verdict_size) (length out₀) v ≡ k = omega (arith, g.rest) in
-      rw (e, g.wrote.end, g.wrote.is, zero-add (length (verdict_lines k v)))
+      rw (e, g.wrote.end, g.wrote.is)
+
+  left_length : length left ≡ length v - verdict_size * k
+  left_length = ap length g.is ∙ length-drop (verdict_size * k) v
+
+  pub same_length : length out ≡ length out₀
+  same_length = length-put (omega (arith, g.wrote.end, g.room)) g.wrote
 
   -- no whole verdict is left
-  pub no_more : length v - i < verdict_size → rendering_of (record { verdicts = k; written = at }) out ≡ rendered v out₀
+  pub no_more : length left < verdict_size → rendering_of (record { verdicts = k; written = at }) out ≡ rendered v out₀
   unfolding fitting
   no_more h =
-      let e : length v / verdict_size - k ≡ 0 = omega (arith, g.place) in
+      let e : length v / verdict_size - k ≡ 0 = omega (arith, left_length) in
       end_lines (rw e)
 
   -- there is no room for a line
   pub no_room : length out - at < line_most → rendering_of (record { verdicts = k; written = at }) out ≡ rendered v out₀
-  no_room h = end_lines (fit_none _ _ (drop i v) (omega (arith, g.same)))
+  no_room h = end_lines (fit_none _ _ left (omega (arith, same_length)))
 
-  module _ (bytes : Bytes v) (h : verdict_size ≤ length v - i) (free : line_most ≤ length out - at) where
-    here : take (length v - i) (drop i v) ≡ drop (verdict_size * k) v
-    here = to_end i v ∙ rw g.place
+  -- the next verdict has a line, and there is room for it
+  module _ (bytes : Bytes v) (x next_left : List ℕ) (cut : left ≡ x ++ next_left) (len : length x ≡ verdict_size) (d : Verdict)
+      (says : d ≡ read_verdict x) (free : line_most ≤ length out - at) where
+    row : List ℕ
+    row = numbers_line (numbers d)
 
-    short : length (verdict_line (take (length v - i) (drop i v))) ≤ line_most
-    short = rw here (line_most_lem (drop (verdict_size * k) v) (bytes_drop v (verdict_size * k) bytes))
+    row_line : row ≡ verdict_line left
+    unfolding row verdict_line
+    row_line = rw (says, cut, line_front x next_left (omega (arith, len)))
 
-    pub line-requires : at + length (verdict_line (take (length v - i) (drop i v))) ≤ length out
-    line-requires = omega (arith, short)
+    fits : length (verdict_lines k v ++ row) ≤ length out₀
+    fits =
+        omega (
+          arith,
+          length-append (verdict_lines k v) row,
+          ap length row_line,
+          rw (← g.is) at (line_most_lem (drop (verdict_size * k) v) (bytes_drop v (verdict_size * k) bytes)),
+          g.wrote.end,
+          same_length,
+        )
 
-    pub line_again : (last : List ℕ) (r : ℕ) → length last ≡ length out → Put at (verdict_line (take (length v - i) (drop i v))) out last r
-        → Lining v out₀ last (k + 1) (i + verdict_size) r
-    line_again last r l p =
+    pub line-requires : length (numbers_line (numbers d)) ≤ length (rest_of at out)
+    unfolding row
+    line-requires = next-room (verdict_lines k v) row fits g.wrote
+
+    pub line_again : (last : List ℕ) (r : ℕ) → Put (numbers_line (numbers d)) (rest_of at out) last r
+        → Lining v out₀ (put_mid at (length out - at) out last) (k + 1) (at + r) next_left
+    unfolding row
+    line_again last r p =
         let n = length v / verdict_size in
-        let a : n - k ≡ suc (n - (k + 1)) = omega (arith, g.place) in
-        let b : length out₀ - at - length (verdict_line (drop i v)) ≡ length out₀ - r = omega (arith, rw to_end at p.end) in
-        let f = fit_on (n - (k + 1)) (length out₀ - at) (drop i v) (omega (arith, g.same)) in
+        let a : n - k ≡ suc (n - (k + 1)) = omega (arith, left_length, ap length cut, length-append x next_left) in
+        let e : drop verdict_size left ≡ next_left = rw cut (drop_at x next_left verdict_size len) in
+        let b : length out₀ - at - length (verdict_line left) ≡ length out₀ - (at + r) = omega (arith, ap length row_line, p.end) in
+        let f = fit_on (n - (k + 1)) (length out₀ - at) left (omega (arith, same_length)) in
         record {
-          place = omega (arith, g.place);
-          within = omega arith;
-          room = omega (arith, p.end, line-requires, g.same);
-          same = l ∙ g.same;
-          wrote =
-              rw (add-one, text_snoc)
-              (then 0 (verdict_lines k v) (verdict_line (drop (verdict_size * k) v)) out₀ out last at r (omega (arith, g.wrote.end, g.room)) g.wrote (rw here at p));
-          rest = g.rest ∙ rw (a, f, b, drop-drop) (omega arith);
+          is =
+              sym e ∙ ap (λ (l : List ℕ). drop verdict_size l) g.is ∙ drop-drop verdict_size (verdict_size * k) v
+              ∙ ap (λ (m : ℕ). drop m v) (omega arith);
+          within = omega (arith, left_length, ap length cut, length-append x next_left);
+          room = omega (arith, p.end, fits, length-append (verdict_lines k v) row, g.wrote.end);
+          wrote = rw (add-one, text_snoc, ← g.is, ← row_line) (next (verdict_lines k v) row fits g.wrote p);
+          rest = g.rest ∙ rw (a, f, b, e) (omega arith);
         }
+
+-- where a line has room, and where none has
+pub ruleset rooms = (line-requires, no_room)

@@ -1,12 +1,12 @@
 // The program's text: the heading, verdicts as lines, the last line, and its argument. No input and no output.
 #![tactic(auto)]
 
-ghost use Rattle.std.specs.Prelude.{◌≡◌, ◌+◌, ◌≤◌, [], ◌∷◌, length};
+ghost use Rattle.std.specs.Prelude.{◌≡◌, ◌+◌, ◌≤◌, length};
 ghost use Rattle.report.specs.Digits.{decimal_digits};
 ghost use Rattle.report.specs.Text.{
   field,
+  numbers,
   numbers_line,
-  verdict_line,
   heading,
   named,
   rendered,
@@ -14,11 +14,11 @@ ghost use Rattle.report.specs.Text.{
   placed,
   ended,
 };
-ghost use Rattle.report.specs.Offset.{offset_of};
+ghost use Rattle.report.specs.Offset.{digits_only, offset_of};
 ghost use Rattle.report.specs.Inner.{Put};
 
-use answer::Step;
-use text::{Number, Set};
+use text::Number;
+use verdict::Verdict;
 
 // The longest line, and the longest last line.
 pub const LINE_MOST: usize = 58;
@@ -32,118 +32,55 @@ pub struct Rendered {
     pub written: usize,
 }
 
-// The number below 2^64 that an argument writes, or none.
-#[derive(Clone, Copy)]
-pub enum Offset {
-    Is(u64),
-    Not,
-}
-
 // How many digits a number has.
+#[tactic(auto, using(crate::proofs::Digits::one, crate::proofs::Digits::count))]
 fn width(x: u64) -> usize
     ensures { result ≡ length (decimal_digits x) }
 {
-    let mut n = 1;
-    let mut rest = x;
-    while 10 <= rest {
-        rest = rest / 10;
-        n += 1;
-    }
-    n
+    x.checked_ilog10().unwrap_or(0) as usize + 1
 }
 
-// A number's digits, the last first, into a part of just their length.
-fn spell(d: &mut [u8], x: u64)
-    requires { length d.old ≡ length (decimal_digits x) }
-    ensures { d.new ≡ decimal_digits x }
+// A number in decimal and the byte after it, at the start of a buffer: how many bytes they are.
+#[tactic(auto, using(crate::proofs::Puts::fields))]
+fn put_field(out: &mut [u8], x: u64, after: u8) -> usize
+    requires { length (field x after) ≤ length out.old }
+    ensures { Put (field x after) out.old out.new result }
 {
-    let mut i = d.len();
-    let mut rest = x;
-    while 10 <= rest {
-        i -= 1;
-        d[i] = (48 + rest % 10) as u8;
-        rest = rest / 10;
-    }
-    d[0] = (48 + rest) as u8;
+    let n = width(x);
+    itoa::write_digits(x, out, n);
+    out[n] = after;
+    n + 1
 }
 
-// A number in decimal and the byte after it, at a place: where they end. Most numbers have one digit.
-fn put_field(out: &mut [u8], at: usize, x: u64, after: u8) -> usize
-    requires { at + length (field x after) ≤ length out.old }
-    ensures { Put at (field x after) out.old out.new result }
+// The line of a verdict, at the start of a buffer: how many bytes it has.
+fn put_line(out: &mut [u8], v: Verdict) -> usize
+    requires { length (numbers_line (numbers v)) ≤ length out.old }
+    ensures { Put (numbers_line (numbers v)) out.old out.new result }
 {
-    if x < 10 {
-        out[at] = (48 + x) as u8;
-        out[at + 1] = after;
-        return at + 2;
-    }
-    let end = at + width(x);
-    spell(&mut out[at..end], x);
-    out[end] = after;
-    end + 1
-}
-
-// Five numbers as a line, with a space between them, at a place: where it ends.
-fn put_row(
-    out: &mut [u8],
-    at: usize,
-    offset: u64,
-    kind: u64,
-    answer: u64,
-    place: u64,
-    number: u64,
-) -> usize
-    requires { at + length (numbers_line (offset ∷ kind ∷ answer ∷ place ∷ number ∷ [])) ≤ length out.old }
-    ensures { Put at (numbers_line (offset ∷ kind ∷ answer ∷ place ∷ number ∷ [])) out.old out.new result }
-{
-    let a = put_field(out, at, offset, b' ');
-    let b = put_field(out, a, kind, b' ');
-    let c = put_field(out, b, answer, b' ');
-    let d = put_field(out, c, place, b' ');
-    put_field(out, d, number, b'\n')
-}
-
-// The line of the verdict at the start of v, at a place: where it ends.
-fn put_line(out: &mut [u8], at: usize, v: &[u8]) -> usize
-    requires { at + length (verdict_line v.now) ≤ length out.old }
-    ensures { Put at (verdict_line v.now) out.old out.new result }
-{
-    let d = verdict::read_verdict(v);
-    put_row(
-        out,
-        at,
-        d.offset,
-        d.kind as u64,
-        d.answer as u64,
-        d.place as u64,
-        d.number,
-    )
+    let mut n = put_field(out, v.offset, b' ');
+    n += put_field(&mut out[n..], u64::from(v.kind), b' ');
+    n += put_field(&mut out[n..], u64::from(v.answer), b' ');
+    n += put_field(&mut out[n..], u64::from(v.place), b' ');
+    n + put_field(&mut out[n..], v.number, b'\n')
 }
 
 // The lines of the verdicts at the start of a buffer, as long as there is room for the longest line.
+#[tactic(auto, using(crate::proofs::Texts::rooms))]
 pub fn lines(verdicts: &[u8], out: &mut [u8]) -> Rendered
     ensures { rendering_of result out.new ≡ rendered verdicts.now out.old }
 {
-    let mut k = 0;
-    let mut i = 0;
-    let mut at = 0;
-    loop {
-        if verdicts.len() - i < verdict::VERDICT_SIZE {
-            return Rendered {
-                verdicts: k,
-                written: at,
-            };
+    let mut done = Rendered {
+        verdicts: 0,
+        written: 0,
+    };
+    for v in verdicts.chunks_exact(verdict::VERDICT_SIZE) {
+        if out.len() - done.written < LINE_MOST {
+            break;
         }
-        if out.len() - at < LINE_MOST {
-            return Rendered {
-                verdicts: k,
-                written: at,
-            };
-        }
-        at = put_line(out, at, &verdicts[i..]);
-        i += verdict::VERDICT_SIZE;
-        k += 1;
+        done.written += put_line(&mut out[done.written..], verdict::read_verdict(v));
+        done.verdicts += 1;
     }
+    done
 }
 
 // The first line: a word for each number of a row.
@@ -154,14 +91,16 @@ pub fn heading() -> [u8; 32]
     *b"offset kind answer place number\n"
 }
 
-// A word, a number and the byte after it, at a place: where they end.
-fn put_named(out: &mut [u8], at: usize, word: &[u8], x: u64, after: u8) -> usize
-    requires { at + length word.now + 21 ≤ length out.old }
-    ensures put { Put at (named word.now x after) out.old out.new result }
-    ensures most { result ≤ at + length word.now + 21 }
+// A word, a number and the byte after it, at the start of a buffer: how many bytes they are.
+#[tactic(auto, using(crate::proofs::Puts::parts), unfolding(crate::specs::Text::named))]
+fn put_named(out: &mut [u8], word: &[u8], x: u64, after: u8) -> usize
+    requires { length word.now + 21 ≤ length out.old }
+    ensures put { Put (named word.now x after) out.old out.new result }
+    ensures most { result ≤ length word.now + 21 }
 {
-    out[at..at + word.len()].copy_from_slice(word);
-    put_field(out, at + word.len(), x, after)
+    let n = word.len();
+    out[..n].copy_from_slice(word);
+    n + put_field(&mut out[n..], x, after)
 }
 
 // The last line at the start of a buffer, and its length: 0 where the longest has no room.
@@ -171,23 +110,28 @@ pub fn last_line(out: &mut [u8], stop: u64, judged: u64, read: u64) -> usize
     if out.len() < LAST_MOST {
         return 0;
     }
-    let a = put_named(out, 0, b"stop ", stop, b' ');
-    let b = put_named(out, a, b"judged ", judged, b' ');
-    put_named(out, b, b"read ", read, b'\n')
+    let mut n = put_named(out, b"stop ", stop, b' ');
+    n += put_named(&mut out[n..], b"judged ", judged, b' ');
+    n + put_named(&mut out[n..], b"read ", read, b'\n')
 }
 
-// The stream offset that the program's argument gives.
-pub fn parse(word: &[u8]) -> Offset
+// Whether all bytes are digits.
+fn only_digits(t: &[u8]) -> bool
+    ensures { result ≡ digits_only t.now }
+{
+    t.iter().all(|b| b.is_ascii_digit())
+}
+
+// The stream offset that the program's argument gives: the number below 2^64 that it writes, or none.
+#[tactic(auto, unfolding(crate::specs::Offset::offset_of))]
+pub fn parse(word: &[u8]) -> Option<u64>
     ensures { result ≡ offset_of word.now }
 {
-    if word.len() == 0 {
-        return Offset::Not;
+    if word.is_empty() || !only_digits(word) {
+        return None;
     }
-    match text::first_wrong(Set::Digits, word, 0, word.len(), 0) {
-        Step::Pass => match text::number_of(word) {
-            Number::Fits(n) => Offset::Is(n),
-            Number::Over => Offset::Not,
-        },
-        Step::Stop(_, _) => Offset::Not,
+    match text::number_of(word) {
+        Number::Fits(n) => Some(n),
+        Number::Over => None,
     }
 }

@@ -1,11 +1,10 @@
--- `report::lines`: the first k lines are written, and as many more will be as have room after them.
-use Prim.Native.Nat.{◌-◌}
-use lib.ListN.{length}
+-- `report::lines`: the first lines are written, and of the verdicts that are left as many more will be as have room after them.
 use Rattle.report.proofs.Texts.{Lining}
+use Rattle.std.specs.Slice.Iter.{chunks_exact_rest, chunks_exact_size}
 use Rattle.report.proofs.lines.Given as goal
+use Rattle.std.proofs.Common.{◌≡◌}
 
-abbrev pub invariant-loop-i : goal.invariant-loop-i
-invariant-loop-i l = Lining l.verdicts l.initial.out l.out l.k l.i l.at
-
-abbrev pub decreases-loop-i : goal.decreases-loop-i
-decreases-loop-i l = length l.verdicts - l.i
+abbrev pub invariant-loop-v : goal.invariant-loop-v
+invariant-loop-v l =
+    Lining l.verdicts l.initial.out l.out l.done.verdicts l.done.written (chunks_exact_rest l.v-iterator)
+    × (chunks_exact_size l.v-iterator ≡ 24)
