@@ -3,10 +3,11 @@ use Prim.Native.Nat.{ℕ, zero, suc, ◌+◌, ◌-◌, ◌*◌, ◌/◌, ◌%◌
 use mathlib.Core.Path.{◌≡◌, refl, sym, ap, ◌∙◌}
 use mathlib.Core.List.{List, [], ◌∷◌, ◌++◌, append_assoc}
 use native.Mathlib.Omega.{arith}
-use native.Mathlib.Nat.{div-add-mod', div-lt_iff_lt-mul, pow-suc, pow-le-pow_right, lt_of_lt_of_le}
+use native.Mathlib.Nat.{div-div-eq-div-mul, div-add-mod', div-lt_iff_lt-mul, pow-suc, pow-le-pow_right, lt_of_lt_of_le}
 use native.Mathlib.Numerals.{add-one}
 use lib.ListN.{length, get_or, take, drop, set, length-take, length-drop, take-append-drop}
 use lib.Seq.{take_all, take-append-le, drop-append-le, drop-cons, get_or-drop, length-take-le, take-suc-set}
+use Rattle.std.specs.Int.{w16, w64, to_le_bytes}
 use Rattle.record.specs.Number.{to_bytes, from_bytes, little_at, Bytes}
 
 -- two bytes at a place; a byte past the end counts 0
@@ -96,3 +97,10 @@ pub write_more : (b : List ℕ) (n i x : ℕ) → length b ≡ n → i < n
 write_more b n i x l h =
     let e : n - i ≡ suc (n - (i + 1)) = omega arith in
     rw (e, add-one i, take-suc-set b i (x % 256) (omega arith)) (simp append_assoc)
+
+-- the library's bytes of a number are these: all eight, and the two of what is left of it by 2^16
+pub eight_bytes : (x : ℕ) → to_le_bytes w64 x ≡ to_bytes 8 x
+eight_bytes x = simp div-div-eq-div-mul
+
+pub two_bytes : (x : ℕ) → to_le_bytes w16 (x % 65536) ≡ to_bytes 2 x
+two_bytes x = let low : x % 65536 % 256 ≡ x % 256 = omega arith in let high : x % 65536 / 256 % 256 ≡ x / 256 % 256 = omega arith in rw (low, high)
