@@ -20,7 +20,7 @@ pub struct Verdict {
 }
 
 // An answer's part of a verdict: the answer, zero, place, number.
-#[tactic(auto, unfolding(crate::specs::Verdict::answer_bytes))]
+#[tactic(auto, using(record::proofs::Numbers::two_bytes, record::proofs::Numbers::eight_bytes), unfolding(crate::specs::Verdict::answer_bytes))]
 pub fn answer_bytes(a: Answer) -> [u8; 12]
     ensures { result ≡ answer_bytes a }
 {
@@ -33,7 +33,7 @@ pub fn answer_bytes(a: Answer) -> [u8; 12]
 }
 
 // A verdict's bytes: the length of what follows the first four, the kind, the offset, the answer.
-#[tactic(auto, unfolding(crate::specs::Verdict::verdict, crate::specs::Verdict::answer_bytes))]
+#[tactic(auto, using(record::proofs::Numbers::eight_bytes), unfolding(crate::specs::Verdict::verdict, crate::specs::Verdict::answer_bytes))]
 pub fn verdict_bytes(kind: u16, offset: u64, a: Answer) -> [u8; VERDICT_SIZE]
     ensures { result ≡ verdict kind offset a }
 {
