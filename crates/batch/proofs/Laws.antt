@@ -82,18 +82,22 @@ module _ {batch : List ℕ} {offset : ℕ} {out₀ : List ℕ} {budget : ℕ} {o
       g.rest ∙ ap (ahead done at w (take w out)) (walk-stop (budget - done) (drop at batch) (offset + at) (drop w out) s (told ∙ e))
       ∙ simp (back, e, add-zero)
 
-  pub may : {a : Head} → r ≡ Ok a → Judged (head_of (drop at batch)) (length (drop w out)) (budget - done) a
+  may : {a : Head} → r ≡ Ok a → Judged (head_of (drop at batch)) (length (drop w out)) (budget - done) a
   may e = judged _ _ _ _ (told ∙ e)
 
-  pub fits : {a : Head} → r ≡ Ok a → Whole (drop at batch) a.kind a.length
-  fits e = whole _ _ _ (may e).head
+  -- a turn that judges had budget left, and its record lies in the batch
+  pub spare : {a : Head} → r ≡ Ok a → done < budget
+  spare e = omega (arith, (may e).left)
+
+  pub reach : {a : Head} → r ≡ Ok a → at + (4 + a.length) ≤ length batch
+  reach e = omega (arith, (whole _ _ _ (may e).head).fits, length-drop at batch, g.inside)
 
   pub again : {a : Head} → r ≡ Ok a → Going batch offset out₀ budget last (done + 1) (at + (4 + a.length)) (w + verdict_size)
   again {a} e =
       let k = a.kind in
       let n = a.length in
       let h = may e in
-      let f = fits e in
+      let f = reach e in
       let v : List ℕ = verdict_of (record_at (drop at batch) (offset + at) k n) in
       let d : List ℕ = drop verdict_size (drop w out) in
       let p : List ℕ = take w out ++ v in
