@@ -4,17 +4,17 @@ use mathlib.Core.Path.{◌≡◌, refl, sym, ap, ◌∙◌}
 use mathlib.Core.Bool.{true}
 use mathlib.Core.List.{List, ◌++◌, append_assoc}
 use native.Mathlib.Omega.{arith}
-use native.Mathlib.Nat.{add-zero, zero-add, sub-zero, add_assoc, sub-add-eq, add-sub_cancel_left}
+use native.Mathlib.Nat.{add-zero, zero-add, sub-zero, add_assoc, sub-add-eq}
 use native.Mathlib.Numerals.{sub-one}
 use lib.Dec.{leb}
-use lib.ListN.{length, take, drop, take-append-drop, length-drop, length-append}
+use lib.ListN.{length, take, drop, length-drop, length-append}
 use lib.Seq.{drop-drop, take_at, drop_at, length-take-le}
 use borrow.Author.Tests.{lt-leb}
 use Rattle.std.specs.Prelude.{Result, Ok, Err}
 use Rattle.record.specs.Head.{head_of}
 use Rattle.record.specs.Records.{record_at}
 use Rattle.record.specs.declared.Head.{Head}
-use Rattle.record.proofs.Heads.{Whole, whole}
+use Rattle.record.proofs.Heads.{whole}
 use Rattle.record.proofs.Parts.{to_end, put_back}
 use Rattle.verdict.specs.Verdict.{verdict_size}
 use Rattle.batch.specs.Verdicts.{verdict_of}
