@@ -70,13 +70,10 @@ pub judges : (room budget : ℕ) (a : Head) → verdict_size ≤ room → 0 < bu
 unfolding next_of
 judges room budget a space left = simp (ne_eqb budget 0 (omega arith), le-ltb room verdict_size space)
 
--- what is judged lies in what is left of the batch, and there is room for its verdict
+-- what is judged lies in what is left of the batch, and its verdict in what is left of the output
 pub lies : (rest : List ℕ) (room budget : ℕ) (a : Head) → next_of (head_of rest) room budget ≡ Ok a → 4 + a.length ≤ length rest
 lies rest room budget a e = (whole rest a.kind a.length (judged (head_of rest) room budget a e).head).fits
 
-pub roomy : (h : Result Head NoRecord) (room budget : ℕ) (a : Head) → next_of h room budget ≡ Ok a → verdict_size ≤ room
-roomy h room budget a e = (judged h room budget a e).space
-
-pub part_there : (h : Result Head NoRecord) (out : List ℕ) (budget : ℕ) (a : Head) → next_of h (length out) budget ≡ Ok a
-    → length (take verdict_size out) ≡ verdict_size
-part_there h out budget a e = length-take-le verdict_size out (roomy h (length out) budget a e)
+pub has_room : (h : Result Head NoRecord) (out : List ℕ) (budget : ℕ) (a : Head) → next_of h (length out) budget ≡ Ok a
+    → (verdict_size ≤ length out) × (length (take verdict_size out) ≡ verdict_size)
+has_room h out budget a e = let f = (judged h (length out) budget a e).space in (f, length-take-le verdict_size out f)

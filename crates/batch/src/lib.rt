@@ -64,7 +64,7 @@ pub fn next(head: Result<Head, NoRecord>, room: usize, budget: u64) -> Result<He
 }
 
 // One turn: the record at the start of `rest` is judged, and its verdict written at the start of `out`; or nothing is written.
-#[tactic(auto, using(crate::proofs::Acts::lies, crate::proofs::Acts::roomy, crate::proofs::Acts::part_there, verdict::proofs::Verdicts::length_verdict), unfolding(crate::specs::Verdicts::verdict_of))]
+#[tactic(auto, using(crate::proofs::Acts::lies, crate::proofs::Acts::has_room, verdict::proofs::Verdicts::length_verdict), unfolding(crate::specs::Verdicts::verdict_of))]
 fn judge_next(rest: &[u8], offset: u64, out: &mut [u8], budget: u64) -> Result<Head, Stop>
     ensures value { result ≡ next_of (head_of rest.now) (length out.old) budget }
     ensures out_after { out.new ≡ act_out result rest.now offset out.old }
