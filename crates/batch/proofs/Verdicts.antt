@@ -6,12 +6,12 @@ use native.Mathlib.Omega.{arith}
 use lib.ListN.{length, length-append}
 use Rattle.record.specs.Records.{RecordAt}
 use Rattle.verdict.specs.Verdict.{verdict_size}
-use Rattle.verdict.proofs.Verdicts.{length-verdict}
+use Rattle.verdict.proofs.Verdicts.{length_verdict}
 use Rattle.batch.specs.Verdicts.{verdict_of, verdicts_of}
 
 pub length-verdict_of : (e : RecordAt) → length (verdict_of e) ≡ verdict_size
 unfolding verdict_of
-length-verdict_of e = length-verdict _ _ _
+length-verdict_of e = length_verdict _ _ _
 
 pub verdicts_of-none : verdicts_of [] ≡ []
 unfolding verdicts_of

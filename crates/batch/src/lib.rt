@@ -2,14 +2,13 @@
 // `record`, what is written for it in `verdict`, and what a field's answer is in `field`.
 #![tactic(auto)]
 
-ghost use Rattle.std.specs.Prelude.{◌≡◌, ◌++◌, ◌+◌, ◌-◌, ◌≤◌, length, take, drop};
+ghost use Rattle.std.specs.Prelude.{◌≡◌, ◌≤◌, length};
 ghost use Rattle.record.specs.Head.{head_of};
-ghost use Rattle.verdict.specs.Verdict.{verdict_size, verdict};
-ghost use Rattle.batch.specs.Walk.{stop_number, unless_spent, next_of, outcome_of, call_of};
+ghost use Rattle.batch.specs.Walk.{stop_number, next_of, outcome_of, call_of};
 ghost use Rattle.batch.specs.Inner.{act_out};
 
-use answer::Answer;
-use record::Head;
+use record::{Head, NoRecord};
+use verdict::VERDICT_SIZE;
 
 // Why a call stopped.
 #[derive(Clone, Copy)]
@@ -22,12 +21,12 @@ pub enum Stop {
     Long,
 }
 
-impl Stop {
-    // SCOPE's number of a stop.
-    pub fn number(self) -> u8
-        ensures { result ≡ stop_number self }
-    {
-        match self {
+// SCOPE's number of a stop.
+impl From<Stop> for u8 {
+    ghost from_gives = { λ stop number. number ≡ stop_number stop };
+
+    fn from(stop: Stop) -> u8 {
+        match stop {
             Stop::Finished => 0,
             Stop::Budget => 31,
             Stop::Room => 32,
@@ -36,13 +35,6 @@ impl Stop {
             Stop::Long => 35,
         }
     }
-}
-
-// What a call does next: it stops, or judges the record that stands there.
-#[derive(Clone, Copy)]
-pub enum Act {
-    Stops(Stop),
-    Judges { kind: u16, length: usize },
 }
 
 // What a call answers: why it stopped, records judged, bytes of the batch read, bytes of the output written.
@@ -54,63 +46,34 @@ pub struct Ran {
     pub written: usize,
 }
 
-// With the budget spent 31 comes before any stop but 0.
-fn unless_spent(budget: u64, why: Stop) -> Act
-    ensures { result ≡ unless_spent budget (Act.Stops why) }
-{
-    if budget == 0 {
-        return Act::Stops(Stop::Budget);
-    }
-    Act::Stops(why)
-}
-
-// What a call does before a record, by the head that stands there, the room left in the output, and the budget left.
+// What a call does before a record, by the head that stands there, the room left in the output, and the budget left: it judges that record,
+// or stops. With the budget spent 31 comes before any stop but 0.
 #[tactic(auto, unfolding(crate::specs::Walk::next_of))]
-pub fn next(head: Head, room: usize, budget: u64) -> Act
+pub fn next(head: Result<Head, NoRecord>, room: usize, budget: u64) -> Result<Head, Stop>
     ensures { result ≡ next_of head room budget }
 {
     match head {
-        Head::End => Act::Stops(Stop::Finished),
-        Head::Short => unless_spent(budget, Stop::Cut),
-        Head::TooLong => unless_spent(budget, Stop::Long),
-        Head::CutShort => unless_spent(budget, Stop::Cut),
-        Head::Record { kind, length } => {
-            if budget == 0 {
-                return Act::Stops(Stop::Budget);
-            }
-            if room < verdict::VERDICT_SIZE {
-                return Act::Stops(Stop::Room);
-            }
-            Act::Judges { kind, length }
-        }
+        Err(NoRecord::End) => Err(Stop::Finished),
+        _ if budget == 0 => Err(Stop::Budget),
+        Err(NoRecord::Short) => Err(Stop::Cut),
+        Err(NoRecord::TooLong) => Err(Stop::Long),
+        Err(NoRecord::CutShort) => Err(Stop::Cut),
+        Ok(_) if room < VERDICT_SIZE => Err(Stop::Room),
+        Ok(head) => Ok(head),
     }
 }
 
-// Writes a verdict's bytes at the start of `out`.
-fn write_verdict(out: &mut [u8], kind: u16, offset: u64, a: Answer)
-    requires { verdict_size ≤ length out.old }
-    ensures { out.new ≡ verdict kind offset a ++ drop verdict_size out.old }
+// One turn: the record at the start of `rest` is judged, and its verdict written at the start of `out`; or nothing is written.
+#[tactic(auto, using(crate::proofs::Acts::lies, crate::proofs::Acts::has_room, verdict::proofs::Verdicts::length_verdict), unfolding(crate::specs::Verdicts::verdict_of))]
+fn judge_next(rest: &[u8], offset: u64, out: &mut [u8], budget: u64) -> Result<Head, Stop>
+    ensures value { result ≡ next_of (head_of rest.now) (length out.old) budget }
+    ensures out_after { out.new ≡ act_out result rest.now offset out.old }
 {
-    let v = verdict::verdict_bytes(kind, offset, a);
-    out[..verdict::VERDICT_SIZE].copy_from_slice(&v);
-}
-
-// One turn: the record at `at` is judged, and its verdict written from `w` on; or nothing is written.
-fn judge_next(batch: &[u8], at: usize, offset: u64, out: &mut [u8], w: usize, budget: u64) -> Act
-    requires at_in_bounds { at ≤ length batch.now }
-    requires w_in_bounds { w ≤ length out.old }
-    ensures value { result ≡ next_of (head_of (drop at batch.now)) (length out.old - w) budget }
-    ensures out_after { out.new ≡ take w out.old ++ act_out result (drop at batch.now) offset (drop w out.old) }
-{
-    match next(record::read_head(&batch[at..]), out.len() - w, budget) {
-        Act::Stops(why) => Act::Stops(why),
-        Act::Judges { kind, length } => {
-            let from = at + 4;
-            let a = field::check_field(kind, &batch[from..from + length]);
-            write_verdict(&mut out[w..], kind, offset, a);
-            Act::Judges { kind, length }
-        }
-    }
+    let head = next(record::read_head(rest), out.len(), budget)?;
+    let answer = field::check_field(head.kind, &rest[4..4 + head.length]);
+    let verdict = verdict::verdict_bytes(head.kind, offset, answer);
+    out[..VERDICT_SIZE].copy_from_slice(&verdict);
+    Ok(head)
 }
 
 // Judges record after record from the start of `batch`, whose first byte has this stream offset, and writes a verdict for each into `out`, for
@@ -119,31 +82,24 @@ pub fn run(batch: &[u8], offset: u64, out: &mut [u8], budget: u64) -> Ran
     ensures out_after { outcome_of result out.new ≡ call_of batch.now offset out.old budget }
     ensures read_in_bounds { (result.read ≤ length batch.now) × (result.written ≤ length out.new) }
 {
-    if 18446744073709551615 - (batch.len() as u64) < offset {
-        return Ran {
-            stop: Stop::Offset,
-            judged: 0,
-            read: 0,
-            written: 0,
-        };
+    let mut ran = Ran {
+        stop: Stop::Offset,
+        judged: 0,
+        read: 0,
+        written: 0,
+    };
+    if offset.checked_add(batch.len() as u64).is_none() {
+        return ran;
     }
-    let mut judged: u64 = 0;
-    let mut at: usize = 0;
-    let mut w: usize = 0;
     loop {
-        match judge_next(batch, at, offset + at as u64, out, w, budget - judged) {
-            Act::Stops(why) => {
-                return Ran {
-                    stop: why,
-                    judged: judged,
-                    read: at,
-                    written: w,
-                };
-            }
-            Act::Judges { kind: _, length } => {
-                judged = judged + 1;
-                at = at + (4 + length);
-                w = w + verdict::VERDICT_SIZE;
+        let rest = &batch[ran.read..];
+        let room = &mut out[ran.written..];
+        match judge_next(rest, offset + ran.read as u64, room, budget - ran.judged) {
+            Err(stop) => return Ran { stop, ..ran },
+            Ok(head) => {
+                ran.judged += 1;
+                ran.read += 4 + head.length;
+                ran.written += VERDICT_SIZE;
             }
         }
     }

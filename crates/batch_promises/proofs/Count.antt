@@ -7,10 +7,11 @@ use native.Mathlib.Omega.{arith}
 use native.Mathlib.Numerals.{sub-one}
 use lib.ListN.{length, take, drop, length-drop}
 use lib.Seq.{drop-drop}
-use Rattle.record.specs.Head.{head_of}
+use Rattle.record.specs.Head.{Record, head_of}
 use Rattle.record.specs.Records.{RecordAt, record_at, records_of, sizes}
+use Rattle.std.specs.Prelude.{Result, Ok, Err}
 use Rattle.record.specs.declared.Head.{Head}
-use Rattle.record.specs.declared.Head.TheVariants.{Record}
+use Rattle.record.specs.declared.NoRecord.{NoRecord}
 use Rattle.record.proofs.Heads.{stands}
 use Rattle.record.proofs.Records.{Walks, none, one, walks, first, size, sizes-none}
 use Rattle.verdict.specs.Verdict.{verdict_size}
@@ -18,8 +19,6 @@ use Rattle.batch.specs.Verdicts.{verdict_of}
 use Rattle.batch.specs.Walk.{next_of, Outcome, stopped, ahead, walk}
 use Rattle.batch.specs.declared.Stop.{Stop}
 use Rattle.batch.specs.declared.Stop.TheVariants.{Finished, Budget, Room, Cut, Offset, Long}
-use Rattle.batch.specs.declared.Act.{Act}
-use Rattle.batch.specs.declared.Act.TheVariants.{Stops, Judges}
 use Rattle.batch.proofs.Acts.{Stopping, stopping, judged}
 use Rattle.batch.proofs.Verdicts.{verdicts_of-none, verdicts_of-more}
 use Rattle.batch.proofs.Laws.{walk-stop, walk-judged}
@@ -45,7 +44,7 @@ why-stop (one k n es e w) out b Offset p = p
 why-stop (one k n es e w) out b Long p = absurd (never _ p.0 (ap stands e))
 
 -- with one record more before it
-why-more : (s : Stop) (j n b w : ℕ) (out : List ℕ) (h : Head) → verdict_size ≤ length out → Why s j n b w (drop verdict_size out) h
+why-more : (s : Stop) (j n b w : ℕ) (out : List ℕ) (h : Result Head NoRecord) → verdict_size ≤ length out → Why s j n b w (drop verdict_size out) h
     → Why s (suc j) (suc n) (suc b) (verdict_size + w) out h
 why-more Finished j n b w out h f p = (omega (arith, p.0), p.1)
 why-more Budget j n b w out h f p = omega (arith, p)
@@ -54,7 +53,7 @@ why-more Cut j n b w out h f p = (omega (arith, p.0), p.1)
 why-more Offset j n b w out h f p = p
 why-more Long j n b w out h f p = (omega (arith, p.0), p.1)
 
-told_stop : (batch : List ℕ) (o : ℕ) (out : List ℕ) (b : ℕ) (s : Stop) → next_of (head_of batch) (length out) b ≡ Stops s
+told_stop : (batch : List ℕ) (o : ℕ) (out : List ℕ) (b : ℕ) (s : Stop) → next_of (head_of batch) (length out) b ≡ Err s
     → Counted batch (records_of batch o) out b (stopped s out)
 told_stop batch o out b s e =
     record {
@@ -86,19 +85,21 @@ told_judged batch o es out b k n r e f t =
 pub told : (b : ℕ) (batch : List ℕ) (o : ℕ) (out : List ℕ) → Counted batch (records_of batch o) out b (walk b batch o out)
 told zero batch o out = go (next_of (head_of batch) (length out) 0) refl
   where
-    go : (t : Act) → next_of (head_of batch) (length out) 0 ≡ t → Counted batch (records_of batch o) out 0 (walk 0 batch o out)
-    go (Stops s) e = rw (walk-stop 0 batch o out s e) (told_stop batch o out 0 s e)
-    go (Judges k n) e = absurd (omega (arith, (judged (head_of batch) (length out) 0 k n e).left))
+    go : (t : Result Head Stop) → next_of (head_of batch) (length out) 0 ≡ t → Counted batch (records_of batch o) out 0 (walk 0 batch o out)
+    go (Err s) e = rw (walk-stop 0 batch o out s e) (told_stop batch o out 0 s e)
+    go (Ok a) e = absurd (omega (arith, (judged (head_of batch) (length out) 0 a e).left))
 told (suc b) batch o out =
     go (next_of (head_of batch) (length out) (suc b)) refl (λ n. told b (drop (4 + n) batch) (o + (4 + n)) (drop verdict_size out))
   where
-    go : (t : Act) → next_of (head_of batch) (length out) (suc b) ≡ t
+    go : (t : Result Head Stop) → next_of (head_of batch) (length out) (suc b) ≡ t
         → ((n : ℕ) → Counted (drop (4 + n) batch) (records_of (drop (4 + n) batch) (o + (4 + n))) (drop verdict_size out) b
         (walk b (drop (4 + n) batch) (o + (4 + n)) (drop verdict_size out)))
         → Counted batch (records_of batch o) out (suc b) (walk (suc b) batch o out)
-    go (Stops s) e ih = rw (walk-stop (suc b) batch o out s e) (told_stop batch o out (suc b) s e)
-    go (Judges k n) e ih =
-        let h = judged (head_of batch) (length out) (suc b) k n e in
-        rw (walk-judged (suc b) batch o out k n e, sub-one, first batch o k n h.head)
+    go (Err s) e ih = rw (walk-stop (suc b) batch o out s e) (told_stop batch o out (suc b) s e)
+    go (Ok a) e ih =
+        let k = a.kind in
+        let n = a.length in
+        let h = judged (head_of batch) (length out) (suc b) a e in
+        rw (walk-judged (suc b) batch o out a e, sub-one, first batch o k n h.head)
         (told_judged batch o (records_of (drop (4 + n) batch) (o + (4 + n))) out b k n
         (walk b (drop (4 + n) batch) (o + (4 + n)) (drop verdict_size out)) h.head h.space (ih n))

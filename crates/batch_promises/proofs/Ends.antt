@@ -8,8 +8,10 @@ use lib.ListN.{length, drop}
 use lib.Seq.{drop-append-le}
 use Rattle.record.specs.Head.{head_limit, head_of}
 use Rattle.record.specs.Records.{records_of, sizes}
+use Rattle.std.specs.Prelude.{Result, Ok, Err}
 use Rattle.record.specs.declared.Head.{Head}
-use Rattle.record.specs.declared.Head.TheVariants.{End, Short, TooLong, CutShort, Record}
+use Rattle.record.specs.declared.NoRecord.{NoRecord}
+use Rattle.record.specs.declared.NoRecord.TheVariants.{End, Short, TooLong, CutShort}
 use Rattle.record.proofs.Heads.{says, long_on, stands}
 use Rattle.record.proofs.Records.{walks, none, unique, append}
 use Rattle.batch.specs.Verdicts.{verdicts_of}
@@ -26,14 +28,14 @@ Left Budget s = ⊥
 Left Room s = stands (head_of s) ≡ true
 Left Cut s = length s < 4 + head_limit
 Left Offset s = ⊥
-Left Long s = head_of s ≡ TooLong
+Left Long s = head_of s ≡ Err TooLong
 
-by_head : (s : List ℕ) (h : Head) → head_of s ≡ h → Left (end_of h) s
-by_head s End e = says s End e
-by_head s Short e = let w = says s Short e in omega (arith, w.1)
-by_head s TooLong e = e
-by_head s CutShort e = let w = says s CutShort e in omega (arith, w.1, w.2)
-by_head s (Record k n) e = ap stands e
+by_head : (s : List ℕ) (h : Result Head NoRecord) → head_of s ≡ h → Left (end_of h) s
+by_head s (Err End) e = says s (Err End) e
+by_head s (Err Short) e = let w = says s (Err Short) e in omega (arith, w.1)
+by_head s (Err TooLong) e = e
+by_head s (Err CutShort) e = let w = says s (Err CutShort) e in omega (arith, w.1, w.2)
+by_head s (Ok a) e = ap stands e
 
 pub left : (s : List ℕ) (y : Stop) → end_of (head_of s) ≡ y → Left y s
 left s y e = subst (λ (x : Stop). Left x s) e (by_head s (head_of s) refl)
@@ -46,7 +48,7 @@ module _ (all : List ℕ) (offset : ℕ) (s : Sum) (d : Did all offset s) (e : s
   stop_is : end_of (head_of (drop (sizes (records_of all offset)) all)) ≡ Long
   stop_is = (d.ends (ap pauses e)).1 ∙ e
 
-  long_there : head_of (drop (sizes (records_of all offset)) all ++ rest) ≡ TooLong
+  long_there : head_of (drop (sizes (records_of all offset)) all ++ rest) ≡ Err TooLong
   long_there = long_on (drop (sizes (records_of all offset)) all) rest (left _ Long stop_is)
 
   same-records : records_of (all ++ rest) offset ≡ records_of all offset

@@ -9,7 +9,9 @@ use lib.ListN.{length, take, drop, length-drop, length-append, take-append-drop}
 use lib.Seq.{drop-drop, take_at, take-add, take-length, take-append-le, length-take-le}
 use Rattle.record.specs.Head.{head_of}
 use Rattle.record.specs.Records.{records_of, sizes, offsets_of, Increasing}
+use Rattle.std.specs.Prelude.{Result}
 use Rattle.record.specs.declared.Head.{Head}
+use Rattle.record.specs.declared.NoRecord.{NoRecord}
 use Rattle.record.proofs.Records.{walks, unique, rest, append, inside, increasing, rising, sizes-none, sizes-least, sizes-append}
 use Rattle.verdict.specs.Verdict.{verdict_size}
 use Rattle.batch.specs.Verdicts.{verdicts_of}
@@ -44,7 +46,7 @@ no : {A : Type 0} → true ≡ false → A
 no e = let z : ◌≡◌ {A = ℕ} 0 1 = cc in absurd (omega arith)
 
 -- a stop that does not pause is the one where the records end
-all-judged : (s : Stop) (j n b w : ℕ) (out : List ℕ) (h : Head) → Why s j n b w out h → pauses s ≡ false → (j ≡ n) × (end_of h ≡ s)
+all-judged : (s : Stop) (j n b w : ℕ) (out : List ℕ) (h : Result Head NoRecord) → Why s j n b w out h → pauses s ≡ false → (j ≡ n) × (end_of h ≡ s)
 all-judged Finished j n b w out h y p = y
 all-judged Budget j n b w out h y p = no p
 all-judged Room j n b w out h y p = no p
@@ -166,7 +168,7 @@ far_on [] c batch offset h = simp (far batch offset c.out c.budget h)
 far_on (d ∷ cs) c batch offset h = simp (far batch offset c.out c.budget h)
 
 -- one call with budget and room for every record does not pause
-enough : (s : Stop) (j n b w : ℕ) (out : List ℕ) (h : Head) → Why s j n b w out h → w ≡ verdict_size * j → n < b → verdict_size * n ≤ length out → j ≤ n
+enough : (s : Stop) (j n b w : ℕ) (out : List ℕ) (h : Result Head NoRecord) → Why s j n b w out h → w ≡ verdict_size * j → n < b → verdict_size * n ≤ length out → j ≤ n
     → pauses s ≡ false
 enough Finished j n b w out h y e f g i = refl
 enough Budget j n b w out h y e f g i = absurd (omega (arith, y))

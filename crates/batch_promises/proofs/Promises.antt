@@ -8,9 +8,9 @@ use native.Mathlib.Omega.{arith}
 use lib.Dec.{leb, eqb}
 use lib.ListN.{length, take, drop}
 use borrow.Author.Tests.{leb-false}
-use Rattle.record.specs.Head.{head_of}
+use Rattle.record.specs.Head.{Record, head_of}
 use Rattle.record.specs.Records.{RecordAt, records_of, offsets_of, Increasing}
-use Rattle.record.specs.declared.Head.TheVariants.{Record}
+use Rattle.record.specs.declared.Head.{Head}
 use Rattle.verdict.specs.Verdict.{verdict_size, verdict}
 use Rattle.batch.specs.Verdicts.{verdict_of}
 use Rattle.batch.specs.Walk.{stop_number, call_of}
@@ -55,7 +55,8 @@ counted batch offset out budget h = rw (near batch offset out budget h) (told bu
 pub at_least_one : (batch : List ℕ) (offset : ℕ) (out : List ℕ) (budget k n : ℕ) → offset + length batch < 2 ^ 64
     → head_of batch ≡ Record k n → 0 < budget → verdict_size ≤ length out → 0 < (call_of batch offset out budget).judged
 at_least_one batch offset out budget k n h e b r =
-    rw (near batch offset out budget h, walk-judged budget batch offset out k n (rw e (judges (length out) budget k n r b))) (omega arith)
+    let a : Head = record { kind = k; length = n } in
+    rw (near batch offset out budget h, walk-judged budget batch offset out a (rw e (judges (length out) budget a r b))) (omega arith)
 
 -- going on from bytes read after each 31 or 32, with the offset moved by as much, until another stop, gives in sum what one call with
 -- enough room and budget gives

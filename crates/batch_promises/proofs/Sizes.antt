@@ -9,7 +9,9 @@ use lib.ListN.{length, drop, length-drop}
 use borrow.Author.Tests.{leb-false}
 use Rattle.record.specs.Head.{head_limit, head_of}
 use Rattle.record.specs.Records.{records_of, sizes}
+use Rattle.std.specs.Prelude.{Result}
 use Rattle.record.specs.declared.Head.{Head}
+use Rattle.record.specs.declared.NoRecord.{NoRecord}
 use Rattle.verdict.specs.Verdict.{verdict_size}
 use Rattle.batch.specs.Walk.{end_of, Outcome, stopped, call_of}
 use Rattle.batch.specs.declared.Stop.{Stop}
@@ -70,7 +72,7 @@ sized batch offset out b = go (leb (2 ^ 64) (offset + length batch)) refl
     go false e = sized_near batch offset out b (leb-false (2 ^ 64) (offset + length batch) e)
 
 -- a call that pauses has judged a record, where it has budget and room for one
-why_goes : (s : Stop) (j n b w : ℕ) (out : List ℕ) (h : Head) → Why s j n b w out h → w ≡ verdict_size * j → 0 < b → verdict_size ≤ length out
+why_goes : (s : Stop) (j n b w : ℕ) (out : List ℕ) (h : Result Head NoRecord) → Why s j n b w out h → w ≡ verdict_size * j → 0 < b → verdict_size ≤ length out
     → pauses s ≡ true → 0 < j
 why_goes Finished j n b w out h y e f g p = let z : ◌≡◌ {A = ℕ} 0 1 = cc in absurd (omega arith)
 why_goes Budget j n b w out h y e f g p = omega (arith, y)

@@ -10,9 +10,8 @@ use Rattle.text.proofs.Near.{Small}
 use Rattle.field.specs.Field.{check_field}
 use Rattle.field.proofs.Places.{field_small}
 use Rattle.record.specs.Number.{little_at, Bytes}
-use Rattle.record.specs.Head.{head_of}
+use Rattle.record.specs.Head.{Record, head_of}
 use Rattle.record.specs.Records.{RecordAt, record_at}
-use Rattle.record.specs.declared.Head.TheVariants.{Record}
 use Rattle.record.proofs.Numbers.{number-most, read_back}
 use Rattle.record.proofs.Heads.{whole, value_long}
 use Rattle.verdict.specs.Verdict.{answer_bytes, read_verdict, saying}

@@ -1,8 +1,9 @@
 -- SCOPE, "How tightly it is tied": a call's count "is that of whole records walked by definition, with 24 bytes changed for each and no others".
-use Rattle.std.specs.Prelude.{ℕ, ◌+◌, ◌*◌, ◌≤◌, ◌<◌, ◌≡◌, List, ◌++◌, length, take, drop}
+use Rattle.std.specs.Prelude.{ℕ, ◌+◌, ◌*◌, ◌≤◌, ◌<◌, ◌≡◌, List, ◌++◌, Result, length, take, drop}
 use Rattle.record.specs.Head.{head_of}
 use Rattle.record.specs.Records.{RecordAt, sizes}
 use Rattle.record.specs.declared.Head.{Head}
+use Rattle.record.specs.declared.NoRecord.{NoRecord}
 use Rattle.verdict.specs.Verdict.{verdict_size}
 use Rattle.batch.specs.Verdicts.{verdicts_of}
 use Rattle.batch.specs.Walk.{end_of, Outcome}
@@ -10,7 +11,7 @@ use Rattle.batch.specs.declared.Stop.{Stop}
 use Rattle.batch.specs.declared.Stop.TheVariants.{Finished, Budget, Room, Cut, Offset, Long}
 
 -- why a call stopped that judged j of n records, with this budget, w bytes written of this output, and h after the last record
-abbrev pub Why : Stop → ℕ → ℕ → ℕ → ℕ → List ℕ → Head → Type 0
+abbrev pub Why : Stop → ℕ → ℕ → ℕ → ℕ → List ℕ → Result Head NoRecord → Type 0
 Why Finished j n budget w out h = (j ≡ n) × (end_of h ≡ Finished)
 Why Budget j n budget w out h = j ≡ budget
 Why Room j n budget w out h = (j < n) × (length out < w + verdict_size)

@@ -3,19 +3,12 @@ use Prim.Native.Nat.{ℕ, zero, suc, ◌+◌, ◌-◌, ◌*◌, ◌/◌, ◌%◌
 use mathlib.Core.Path.{◌≡◌, refl, sym, ap, ◌∙◌}
 use mathlib.Core.List.{List, [], ◌∷◌, ◌++◌, append_assoc}
 use native.Mathlib.Omega.{arith}
-use native.Mathlib.Nat.{div-add-mod', div-lt_iff_lt-mul, pow-suc, pow-le-pow_right, lt_of_lt_of_le}
+use native.Mathlib.Nat.{div-div-eq-div-mul, div-add-mod', div-lt_iff_lt-mul, pow-suc, pow-le-pow_right, lt_of_lt_of_le}
 use native.Mathlib.Numerals.{add-one}
-use lib.ListN.{length, get_or, take, drop, set, length-take, length-drop, take-append-drop}
-use lib.Seq.{take_all, take-append-le, drop-append-le, drop-cons, get_or-drop, length-take-le, take-suc-set}
+use lib.ListN.{length, take, drop, set, length-take, length-drop, take-append-drop}
+use lib.Seq.{take_all, take-append-le, drop-append-le, get_or-drop, length-take-le, take-suc-set}
+use Rattle.std.specs.Int.{w16, w64, to_le_bytes}
 use Rattle.record.specs.Number.{to_bytes, from_bytes, little_at, Bytes}
-
--- two bytes at a place; a byte past the end counts 0
-pub two_at : (s : List ℕ) (at : ℕ) → little_at s at 2 ≡ get_or s at 0 + 256 * get_or s (at + 1) 0
-two_at [] zero = refl
-two_at [] (suc at) = refl
-two_at (a ∷ []) zero = refl
-two_at (a ∷ b ∷ s) zero = omega arith
-two_at (a ∷ s) (suc at) = rw add-one (rw add-one at (two_at s at))
 
 -- bytes that follow do not change a number
 pub number_append : (s more : List ℕ) (at k : ℕ) → at + k ≤ length s → little_at (s ++ more) at k ≡ little_at s at k
@@ -45,16 +38,14 @@ bytes_take (x ∷ b) (suc n) h zero = h 0
 bytes_take (x ∷ b) (suc n) h (suc i) = bytes_take b n (λ j. h (suc j)) i
 
 -- so many bytes hold no greater number
-pub number-low : (b : List ℕ) → Bytes b → from_bytes b < 256 ^ length b
+number-low : (b : List ℕ) → Bytes b → from_bytes b < 256 ^ length b
 number-low [] h = omega arith
 number-low (x ∷ b) h = rw (pow-suc 256 (length b)) (omega (arith, h 0, number-low b (λ i. h (suc i))))
 
-pub number-within : (b : List ℕ) → Bytes b → (n : ℕ) → length b ≤ n → from_bytes b < 256 ^ n
-number-within b h n l = lt_of_lt_of_le (number-low b h) (pow-le-pow_right (omega arith) l)
-
 pub number-most : (b : List ℕ) → Bytes b → (at k : ℕ) → little_at b at k < 256 ^ k
 number-most b h at k =
-    number-within (take k (drop at b)) (bytes_take (drop at b) k (bytes_drop b at h)) k (simp length-take (omega arith))
+    lt_of_lt_of_le (number-low (take k (drop at b)) (bytes_take (drop at b) k (bytes_drop b at h)))
+    (pow-le-pow_right (omega arith) (simp length-take (omega arith)))
 
 -- the bytes that a number was read from
 bytes_back : (b : List ℕ) → Bytes b → to_bytes (length b) (from_bytes b) ≡ b
@@ -84,15 +75,16 @@ part-read b at k l = all_read (take k (drop at b)) (simp length-take (omega arit
 pub part-written : (at k x : ℕ) (b out : List ℕ) → at + k ≤ length b → out ≡ to_bytes (length (take k (drop at b))) x → out ≡ to_bytes k x
 part-written at k x b out l e = e ∙ ap (λ (n : ℕ). to_bytes n x) (part_long at k b l)
 
--- read from the last byte down: one byte more at the low end
-pub read_more : (b : List ℕ) (i : ℕ) → 0 < i → i ≤ length b → from_bytes (drop (i - 1) b) ≡ get_or b (i - 1) 0 + 256 * from_bytes (drop i b)
-read_more b i p h =
-    let e : suc (i - 1) ≡ i = omega arith in
-    ap from_bytes (drop-cons b (i - 1) 0 (omega arith)) ∙ ap (λ (n : ℕ). get_or b (i - 1) 0 + 256 * from_bytes (drop n b)) e
-
 -- written from the lowest byte up: one byte more
 pub write_more : (b : List ℕ) (n i x : ℕ) → length b ≡ n → i < n
     → take i b ++ to_bytes (n - i) x ≡ take (i + 1) (set b i (x % 256)) ++ to_bytes (n - (i + 1)) (x / 256)
 write_more b n i x l h =
     let e : n - i ≡ suc (n - (i + 1)) = omega arith in
     rw (e, add-one i, take-suc-set b i (x % 256) (omega arith)) (simp append_assoc)
+
+-- the library's bytes of a number are these: all eight, and the two of what is left of it by 2^16
+pub eight_bytes : (x : ℕ) → to_le_bytes w64 x ≡ to_bytes 8 x
+eight_bytes x = simp div-div-eq-div-mul
+
+pub two_bytes : (x : ℕ) → to_le_bytes w16 (x % 65536) ≡ to_bytes 2 x
+two_bytes x = let low : x % 65536 % 256 ≡ x % 256 = omega arith in let high : x % 65536 / 256 % 256 ≡ x / 256 % 256 = omega arith in rw (low, high)

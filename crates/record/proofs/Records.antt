@@ -7,10 +7,12 @@ use native.Mathlib.Omega.{arith}
 use native.Mathlib.Nat.{add-zero, add_assoc}
 use lib.ListN.{length, get_or, take, drop, length-drop}
 use lib.Seq.{drop-nil, drop-drop, drop_at, take-add, take-take, length-take-le}
-use Rattle.record.specs.Head.{head_of}
+use Rattle.std.specs.Prelude.{Result, Ok, Err}
+use Rattle.record.specs.Head.{Record, head_of}
 use Rattle.record.specs.Records.{RecordAt, record_at, records_by, records_past, records_of, sizes, offsets_of, Increasing}
 use Rattle.record.specs.declared.Head.{Head}
-use Rattle.record.specs.declared.Head.TheVariants.{End, Short, TooLong, CutShort, Record}
+use Rattle.record.specs.declared.NoRecord.{NoRecord}
+use Rattle.record.specs.declared.NoRecord.TheVariants.{End}
 use Rattle.record.proofs.Heads.{head_is, whole, value_long, longer, same_record, same_rest, shorter, stands}
 
 past : (n : ℕ) (s : List ℕ) (o : ℕ) → records_past n s o ≡ records_of (drop n s) (o + n)
@@ -25,12 +27,9 @@ unfolding records_past
 nothing [] o e = refl
 nothing (b ∷ s) o e = go (head_of (b ∷ s)) e
   where
-    go : (h : Head) → stands h ≡ false → records_by h (b ∷ s) o (λ n. records_past n s (suc o)) ≡ []
-    go End e = refl
-    go Short e = refl
-    go TooLong e = refl
-    go CutShort e = refl
-    go (Record k n) e = let z : ◌≡◌ {A = ℕ} 0 1 = cc in absurd (omega arith)
+    go : (h : Result Head NoRecord) → stands h ≡ false → records_by h (b ∷ s) o (λ n. records_past n s (suc o)) ≡ []
+    go (Err x) e = refl
+    go (Ok h) e = let z : ◌≡◌ {A = ℕ} 0 1 = cc in absurd (omega arith)
 
 pub first : (s : List ℕ) (o k n : ℕ) → head_of s ≡ Record k n
     → records_of s o ≡ record_at s o k n ∷ records_of (drop (4 + n) s) (o + (4 + n))
@@ -47,13 +46,12 @@ pub data Walks : List ℕ → ℕ → List RecordAt → Type 0 where
   one : {s : List ℕ} {o : ℕ} (k n : ℕ) (es : List RecordAt) → head_of s ≡ Record k n → Walks (drop (4 + n) s) (o + (4 + n)) es
       → Walks s o (record_at s o k n ∷ es)
 
-by_head : (s : List ℕ) (o : ℕ) (h : Head) → head_of s ≡ h
+by_head : (s : List ℕ) (o : ℕ) (h : Result Head NoRecord) → head_of s ≡ h
     → ((k n : ℕ) → h ≡ Record k n → Walks (drop (4 + n) s) (o + (4 + n)) (records_of (drop (4 + n) s) (o + (4 + n)))) → Walks s o (records_of s o)
-by_head s o End e f = rw (nothing s o (ap stands e)) (none (ap stands e))
-by_head s o Short e f = rw (nothing s o (ap stands e)) (none (ap stands e))
-by_head s o TooLong e f = rw (nothing s o (ap stands e)) (none (ap stands e))
-by_head s o CutShort e f = rw (nothing s o (ap stands e)) (none (ap stands e))
-by_head s o (Record k n) e f = rw (first s o k n e) (one k n (records_of (drop (4 + n) s) (o + (4 + n))) e (f k n refl))
+by_head s o (Err x) e f = rw (nothing s o (ap stands e)) (none (ap stands e))
+by_head s o (Ok h) e f =
+    let n = h.length in
+    rw (first s o h.kind n e) (one h.kind n (records_of (drop (4 + n) s) (o + (4 + n))) e (f h.kind n refl))
 
 walks_in : (f : ℕ) (s : List ℕ) (o : ℕ) → length s ≤ f → Walks s o (records_of s o)
 walks_in zero s o h = by_head s o (head_of s) refl (λ k n e. absurd (omega (arith, (whole s k n e).fits)))
@@ -111,8 +109,8 @@ drop-take : (a m : ℕ) (l : List ℕ) → a ≤ length l → drop a (take (a + 
 drop-take a m l h = rw (take-add a m l) (drop_at (take a l) (take m (drop a l)) a (length-take-le a l h))
 
 pub front : {s : List ℕ} {o : ℕ} {es : List RecordAt} → Walks s o es → (j : ℕ) → Walks (take (sizes (take j es)) s) o (take j es)
-front w zero = rw sizes-none (none (ap stands (head_is [] End refl)))
-front (none h) (suc j) = rw sizes-none (none (ap stands (head_is [] End refl)))
+front w zero = rw sizes-none (none (ap stands (head_is [] (Err End) refl)))
+front (none h) (suc j) = rw sizes-none (none (ap stands (head_is [] (Err End) refl)))
 front {s} {o} (one k n es e w) (suc j) =
     let m = sizes (take j es) in
     let f = (whole s k n e).fits in

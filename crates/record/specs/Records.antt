@@ -1,8 +1,8 @@
 -- SCOPE, "The batch": the whole records at the start of a batch, each with its stream offset, up to the first place where none stands.
-use Rattle.std.specs.Prelude.{ℕ, zero, suc, ◌+◌, ◌<◌, List, [], ◌∷◌, map, length, get_or, take, drop}
+use Rattle.std.specs.Prelude.{ℕ, zero, suc, ◌+◌, ◌<◌, List, [], ◌∷◌, Result, Ok, Err, map, length, get_or, take, drop}
 use Rattle.record.specs.Head.{head_of}
 use Rattle.record.specs.declared.Head.{Head}
-use Rattle.record.specs.declared.Head.TheVariants.{End, Short, TooLong, CutShort, Record}
+use Rattle.record.specs.declared.NoRecord.{NoRecord}
 
 -- a record: the stream offset of its first byte, its kind and its value
 pub record RecordAt : Type 0 where
@@ -14,13 +14,10 @@ pub record RecordAt : Type 0 where
 abbrev pub record_at : List ℕ → ℕ → ℕ → ℕ → RecordAt
 record_at batch offset k n = record { offset = offset; kind = k; value = take n (drop 4 batch) }
 
--- a whole record, and then those past its bytes, of which one is passed already; any other head ends them
-abbrev pub records_by : Head → List ℕ → ℕ → (ℕ → List RecordAt) → List RecordAt
-records_by End batch offset rest = []
-records_by Short batch offset rest = []
-records_by TooLong batch offset rest = []
-records_by CutShort batch offset rest = []
-records_by (Record k n) batch offset rest = record_at batch offset k n ∷ rest (3 + n)
+-- a whole record, and then those past its bytes, of which one is passed already; where none stands they end
+abbrev pub records_by : Result Head NoRecord → List ℕ → ℕ → (ℕ → List RecordAt) → List RecordAt
+records_by (Err e) batch offset rest = []
+records_by (Ok h) batch offset rest = record_at batch offset h.kind h.length ∷ rest (3 + h.length)
 
 -- the records of a batch past its first n bytes
 unfoldable pub records_past : ℕ → List ℕ → ℕ → List RecordAt

@@ -2,105 +2,70 @@
 // judged by stands in `batch`; whoever walks over records reads their heads here.
 #![tactic(auto)]
 
-ghost use Rattle.std.specs.Prelude.{◌≡◌, ◌+◌, ◌≤◌, length, take};
-ghost use Rattle.record.specs.Number.{to_bytes, from_bytes, little_at};
+ghost use Rattle.std.specs.Prelude.{◌≡◌, length, take};
+ghost use Rattle.record.specs.Number.{to_bytes, from_bytes};
 ghost use Rattle.record.specs.Head.{head_of};
 
 // The longest value that a head may announce.
 pub const HEAD_LIMIT: usize = 8192;
 
-// What stands at the start of the rest of a batch: nothing, fewer bytes than a head has, a length above the limit, a value cut
-// short, or a whole record.
+// What a whole record's head says: its kind, and the length of its value.
 #[derive(Clone, Copy)]
-pub enum Head {
+pub struct Head {
+    pub kind: u16,
+    pub length: usize,
+}
+
+// Why no whole record stands at the start of the rest of a batch: nothing is left, or fewer bytes than a head has, or the length is above
+// the limit, or the value is cut short.
+#[derive(Clone, Copy)]
+pub enum NoRecord {
     End,
     Short,
     TooLong,
     CutShort,
-    Record { kind: u16, length: usize },
 }
 
 // The number that bytes write, the lowest first; of more than eight bytes the first eight.
 pub fn read_number(b: &[u8]) -> u64
     ensures { result ≡ from_bytes (take 8 b.now) }
 {
-    let mut x: u64 = 0;
-    let mut i = b.len();
-    if 8 < i {
-        i = 8;
-    }
-    while 0 < i {
-        i -= 1;
-        x = (b[i] as u64) + 256 * x;
-    }
-    x
+    let n = b.len().min(8);
+    let mut bytes = [0; 8];
+    bytes[..n].copy_from_slice(&b[..n]);
+    u64::from_le_bytes(bytes)
 }
 
 // As many of a number's bytes as there is room for, the lowest first.
+#[tactic(auto, using(crate::proofs::Numbers::write_more))]
 pub fn write_number(b: &mut [u8], x: u64)
     ensures { b.new ≡ to_bytes (length b.old) x }
 {
     let mut rest = x;
-    let mut i = 0;
-    while i < b.len() {
-        b[i] = (rest % 256) as u8;
-        rest = rest / 256;
-        i += 1;
+    for byte in b.iter_mut() {
+        *byte = (rest % 256) as u8;
+        rest /= 256;
     }
 }
 
-// All eight bytes of a number, by value: for what is put together from several numbers.
-pub fn eight(x: u64) -> [u8; 8]
-    ensures { result ≡ to_bytes 8 x }
-{
-    let x1 = x / 256;
-    let x2 = x1 / 256;
-    let x3 = x2 / 256;
-    let x4 = x3 / 256;
-    let x5 = x4 / 256;
-    let x6 = x5 / 256;
-    let x7 = x6 / 256;
-    [
-        (x % 256) as u8,
-        (x1 % 256) as u8,
-        (x2 % 256) as u8,
-        (x3 % 256) as u8,
-        (x4 % 256) as u8,
-        (x5 % 256) as u8,
-        (x6 % 256) as u8,
-        (x7 % 256) as u8,
-    ]
-}
-
-// Two bytes at a place.
-fn pair_at(s: &[u8], at: usize) -> u16
-    requires { at + 2 ≤ length s.now }
-    ensures { result ≡ little_at s.now at 2 }
-{
-    (s[at] as u16) + 256 * (s[at + 1] as u16)
-}
-
-// What stands at the start of the rest of a batch: the one function that reads a record's head.
+// The head of the record at the start of the rest of a batch: the one function that reads a record's head.
 #[tactic(auto, unfolding(crate::specs::Head::head_of))]
-pub fn read_head(rest: &[u8]) -> Head
+pub fn read_head(rest: &[u8]) -> Result<Head, NoRecord>
     ensures { result ≡ head_of rest.now }
 {
-    let left = rest.len();
-    if left == 0 {
-        return Head::End;
+    if rest.is_empty() {
+        return Err(NoRecord::End);
     }
-    if left < 4 {
-        return Head::Short;
-    }
-    let length = pair_at(rest, 0) as usize;
+    let [l0, l1, k0, k1, value @ ..] = rest else {
+        return Err(NoRecord::Short);
+    };
+    let length = usize::from(u16::from_le_bytes([*l0, *l1]));
     if HEAD_LIMIT < length {
-        return Head::TooLong;
+        return Err(NoRecord::TooLong);
     }
-    if left < 4 + length {
-        return Head::CutShort;
+    if value.len() < length {
+        return Err(NoRecord::CutShort);
     }
-    Head::Record {
-        kind: pair_at(rest, 2),
-        length,
-    }
+    let kind = u16::from_le_bytes([*k0, *k1]);
+    Ok(Head { kind, length })
 }

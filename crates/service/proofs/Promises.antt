@@ -12,7 +12,9 @@ use Rattle.std.specs.declared.option.Option.{Option}
 use Rattle.std.specs.Io.KnownBytes.{Appends}
 use Rattle.std.proofs.KnownBytes.{Appends-trans}
 use Rattle.record.specs.declared.Head.{Head}
-use Rattle.record.specs.declared.Head.TheVariants.{End, Short, TooLong, CutShort, Record}
+use Rattle.record.specs.declared.NoRecord.{NoRecord}
+use Rattle.record.specs.declared.NoRecord.TheVariants.{End, Short, TooLong, CutShort}
+use Rattle.std.specs.Prelude.{Result, Ok, Err}
 use Rattle.batch.specs.Walk.{end_of}
 use Rattle.batch.specs.declared.Stop.{Stop}
 use Rattle.batch.specs.declared.Stop.TheVariants.{Finished, Budget, Room, Cut, Offset, Long}
@@ -93,12 +95,12 @@ pauses_not : true ≡ false → ⊥
 pauses_not e = let z : ◌≡◌ {A = ℕ} 0 1 = cc in absurd (omega arith)
 
 -- no batch ends with stop 34 by what stands in it
-not_offset : (h : Head) → end_of h ≡ Offset → ⊥
-not_offset End e = let z : ◌≡◌ {A = ℕ} 0 1 = cc in absurd (omega arith)
-not_offset Short e = let z : ◌≡◌ {A = ℕ} 0 1 = cc in absurd (omega arith)
-not_offset TooLong e = let z : ◌≡◌ {A = ℕ} 0 1 = cc in absurd (omega arith)
-not_offset CutShort e = let z : ◌≡◌ {A = ℕ} 0 1 = cc in absurd (omega arith)
-not_offset (Record k n) e = let z : ◌≡◌ {A = ℕ} 0 1 = cc in absurd (omega arith)
+not_offset : (h : Result Head NoRecord) → end_of h ≡ Offset → ⊥
+not_offset (Err End) e = let z : ◌≡◌ {A = ℕ} 0 1 = cc in absurd (omega arith)
+not_offset (Err Short) e = let z : ◌≡◌ {A = ℕ} 0 1 = cc in absurd (omega arith)
+not_offset (Err TooLong) e = let z : ◌≡◌ {A = ℕ} 0 1 = cc in absurd (omega arith)
+not_offset (Err CutShort) e = let z : ◌≡◌ {A = ℕ} 0 1 = cc in absurd (omega arith)
+not_offset (Ok a) e = let z : ◌≡◌ {A = ℕ} 0 1 = cc in absurd (omega arith)
 
 -- what was written after the heading and the last line are all that SCOPE asks for the bytes that came and those that are left: none are
 -- left, or the run was ended by a length above the limit, after which nothing is read

@@ -318,8 +318,8 @@ fn last_line(text: &mut [u8], s: State) -> usize
     requires { (last_most ≤ length text.old) × (s.start ≤ s.offset) }
     ensures { Closing text.new s result }
 {
-    let stop = s.stop;
-    report::last_line(text, stop.number() as u64, s.judged, s.offset - s.start)
+    let stop = u8::from(s.stop);
+    report::last_line(text, u64::from(stop), s.judged, s.offset - s.start)
 }
 
 // The whole run: the heading, the turns and, unless input or output failed, the last line. Whether all was written, the last line too.

@@ -69,7 +69,7 @@ pub fn stitchbarrow_run(
     counts[0] = ran.judged;
     counts[1] = ran.read as u64;
     counts[2] = ran.written as u64;
-    ran.stop.number()
+    u8::from(ran.stop)
 }
 
 fn read_sheet(b: &[u8]) -> Sheet

@@ -14,9 +14,9 @@ use Rattle.record.proofs.Numbers.{number_append, number-most, read_back}
 use Rattle.verdict.specs.Verdict.{verdict_size, answer_bytes, verdict, read_verdict, saying}
 use Rattle.verdict.specs.declared.Verdict.{Verdict}
 
-pub length-verdict : (kind offset : ℕ) (a : Answer) → length (verdict kind offset a) ≡ verdict_size
+pub length_verdict : (kind offset : ℕ) (a : Answer) → length (verdict kind offset a) ≡ verdict_size
 unfolding verdict answer_bytes
-length-verdict kind offset a = refl
+length_verdict kind offset a = refl
 
 -- the numbers of a whole verdict, at their places
 abbrev at : List ℕ → Verdict

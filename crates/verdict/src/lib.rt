@@ -10,7 +10,7 @@ use answer::Answer;
 pub const VERDICT_SIZE: usize = 24;
 
 // What a verdict says of its record: the stream offset, the kind, and the three numbers of the answer.
-#[derive(Clone, Copy)]
+#[derive(Clone, Copy, Default)]
 pub struct Verdict {
     pub offset: u64,
     pub kind: u16,
@@ -20,82 +20,45 @@ pub struct Verdict {
 }
 
 // An answer's part of a verdict: the answer, zero, place, number.
-#[tactic(auto, unfolding(crate::specs::Verdict::answer_bytes))]
+#[tactic(auto, using(record::proofs::Numbers::two_bytes, record::proofs::Numbers::eight_bytes), unfolding(crate::specs::Verdict::answer_bytes))]
 pub fn answer_bytes(a: Answer) -> [u8; 12]
     ensures { result ≡ answer_bytes a }
 {
-    let p = a.place();
-    let n = record::eight(a.value());
-    [
-        a.number(),
-        0,
-        (p % 256) as u8,
-        (p / 256 % 256) as u8,
-        n[0],
-        n[1],
-        n[2],
-        n[3],
-        n[4],
-        n[5],
-        n[6],
-        n[7],
-    ]
+    let place = (a.place() % 65536) as u16;
+    let mut bytes = [0; 12];
+    bytes[0] = a.number();
+    bytes[2..4].copy_from_slice(&place.to_le_bytes());
+    bytes[4..12].copy_from_slice(&a.value().to_le_bytes());
+    bytes
 }
 
 // A verdict's bytes: the length of what follows the first four, the kind, the offset, the answer.
-#[tactic(auto, unfolding(crate::specs::Verdict::verdict, crate::specs::Verdict::answer_bytes))]
+#[tactic(auto, using(record::proofs::Numbers::eight_bytes), unfolding(crate::specs::Verdict::verdict, crate::specs::Verdict::answer_bytes))]
 pub fn verdict_bytes(kind: u16, offset: u64, a: Answer) -> [u8; VERDICT_SIZE]
     ensures { result ≡ verdict kind offset a }
 {
-    let o = record::eight(offset);
-    let t = answer_bytes(a);
-    [
-        (VERDICT_SIZE - 4) as u8,
-        0,
-        (kind % 256) as u8,
-        (kind / 256 % 256) as u8,
-        o[0],
-        o[1],
-        o[2],
-        o[3],
-        o[4],
-        o[5],
-        o[6],
-        o[7],
-        t[0],
-        t[1],
-        t[2],
-        t[3],
-        t[4],
-        t[5],
-        t[6],
-        t[7],
-        t[8],
-        t[9],
-        t[10],
-        t[11],
-    ]
+    let mut bytes = [0; VERDICT_SIZE];
+    bytes[0] = (VERDICT_SIZE - 4) as u8;
+    bytes[2..4].copy_from_slice(&kind.to_le_bytes());
+    bytes[4..12].copy_from_slice(&offset.to_le_bytes());
+    bytes[12..].copy_from_slice(&answer_bytes(a));
+    bytes
 }
 
 // What the verdict at the start of `v` says, read from the places where it was written; fewer bytes than a verdict has say nothing, 0
 // throughout.
+#[tactic(auto, unfolding(crate::specs::Verdict::read_verdict))]
 pub fn read_verdict(v: &[u8]) -> Verdict
     ensures { result ≡ read_verdict v.now }
 {
     if v.len() < VERDICT_SIZE {
-        return Verdict {
-            offset: 0,
-            kind: 0,
-            answer: 0,
-            place: 0,
-            number: 0,
-        };
+        return Verdict::default();
     }
     Verdict {
         offset: record::read_number(&v[4..12]),
-        kind: record::read_number(&v[2..4]) as u16,
+        kind: u16::from_le_bytes([v[2], v[3]]),
         answer: v[12],
-        place: record::read_number(&v[14..16]) as u16,
+        place: u16::from_le_bytes([v[14], v[15]]),
         number: record::read_number(&v[16..24]),
     }
 }

@@ -3,8 +3,8 @@ use Prim.Native.Nat.{◌-◌}
 use Rattle.batch.proofs.Laws.{Going}
 use Rattle.batch.proofs.run.Given as goal
 
-abbrev pub invariant-loop-why : goal.invariant-loop-why
-invariant-loop-why l = Going l.batch l.offset l.initial.out l.budget l.out l.judged l.at l.w
+abbrev pub invariant-loop-stop : goal.invariant-loop-stop
+invariant-loop-stop l = Going l.batch l.offset l.initial.out l.budget l.out l.ran.judged l.ran.read l.ran.written
 
-abbrev pub decreases-loop-why : goal.decreases-loop-why
-decreases-loop-why l = l.budget - l.judged
+abbrev pub decreases-loop-stop : goal.decreases-loop-stop
+decreases-loop-stop l = l.budget - l.ran.judged

@@ -6,5 +6,5 @@ pub returns : goal.returns
 returns c =
     record {
       inside = last-inside _ _ _ _ _ _ c.last_line.ensures c.last_line.auto.out;
-      is = rw (← c.number.ensures) (last-front _ _ _ _ _ _ c.last_line.ensures c.requires.0);
+      is = rw (← c.from-stop.ensures, ← c.from.ensures) (last-front _ _ _ _ _ _ c.last_line.ensures c.requires.0);
     }
