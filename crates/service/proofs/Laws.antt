@@ -24,7 +24,8 @@ use Rattle.turn_promises.specs.Stream.{Event, more, call, Stream, started, calle
 use Rattle.batch_promises.proofs.Sizes.{Sized, sized, goes}
 use Rattle.turn.proofs.Laws.{room-least, room_in}
 use Rattle.service.specs.declared.run.Run.{Run}
-use Rattle.service.specs.Run.{waiting, Is, Reached, Called, Ahead, Led, came_in, wrote_in, TurnAdds, First, Turns, begin, then, Served}
+use Rattle.service.specs.Run.{waiting, Is, Reached, Called, Ahead, Led, came_in, wrote_in, TurnAdds, First, Turns, begin, then, last_ahead, Served}
+use Rattle.service.specs.declared.run.Failed.{Failed}
 use Rattle.service.specs.Inner.{records, call_with, Judging, Shifted, passed, Moved, More}
 
 pub held-length : (s : Run) → length (waiting s) ≡ s.end - s.at
@@ -102,8 +103,8 @@ module _ (s : Run) (t : Turned) (out₁ text₁ : List ℕ) (q : turning_of t ou
           text = rw (h, i'.text, w, x, the_lines);
         }
 
-    pub judging : verdict_size ≤ length s.out → line_most ≤ length s.text → Judging s r
-    judging v l =
+    pub judging : verdict_size ≤ length s.out → line_most ≤ length s.text → passed r < 2 ^ 66 → Judging s r
+    judging v l y =
         let m = room_of (length s.out) (length s.text) in
         let k : length c.out ≡ m = length-take-le m s.out (room_in (length s.out) (length s.text) m refl) in
         let g = room-least (length s.out) (length s.text) v l in
@@ -116,6 +117,7 @@ module _ (s : Run) (t : Turned) (out₁ text₁ : List ℕ) (q : turning_of t ou
           later = omega (arith, f);
           total = omega (arith, read-inside, f, a, e);
           grew = λ d. omega (arith, f, few, the_judged, goes (waiting s) s.offset c.out c.budget (omega arith) (rw k g) (ap pauses (sym the_stop ∙ sym p) ∙ d));
+          fits = y;
         }
 
 -- one event more: the run goes on by it, and its bytes came after the others
@@ -279,3 +281,59 @@ module _ (s r : Run) (j : Judging s r) where
         led = λ came wrote k. rw g.told (g.led came (wrote ++ wrote_in r) (judged-called came wrote k p));
         start = g.start ∙ j.start;
       }
+
+-- the loop of turns
+pub record Going (s r : Run) : Type 0 where
+  pub came : List ℕ
+  pub wrote : List ℕ
+  pub turns : Turns s came wrote r (Ok true)
+
+abbrev pub going_start : (s : Run) → Going s s
+going_start s = record { came = []; wrote = []; turns = begin }
+
+module _ (s r : Run) (t : Going s r) (m : Run) (x : Ahead) (a : TurnAdds r m x) where
+  abbrev pub going_on : x ≡ Ok true → Going s m
+  going_on e =
+      record {
+        came = t.came ++ came_in m;
+        wrote = t.wrote ++ wrote_in m;
+        turns = subst (λ (y : Ahead). Turns s (t.came ++ came_in m) (t.wrote ++ wrote_in m) m y) e (then m x t.turns a);
+      }
+
+  pub going_over : (y : Result (Unit {0}) Failed) → x ≡ last_ahead y → Served s m y
+  going_over y e =
+      record {
+        came = t.came ++ came_in m;
+        wrote = t.wrote ++ wrote_in m;
+        turns = subst (λ (y : Ahead). Turns s (t.came ++ came_in m) (t.wrote ++ wrote_in m) m y) e (then m x t.turns a);
+      }
+
+-- turns lead from the start to where they are
+led-start : (start : ℕ) (r : Run) → First start r → Led [] [] r (Ok true)
+unfolding feed input
+led-start start r f =
+    record {
+      reached =
+          record {
+            events = [];
+            all = refl;
+            is =
+                record {
+                  bytes = rw (f.at, f.end);
+                  offset = f.start ∙ sym f.offset;
+                  judged = sym f.judged;
+                  read = omega (arith, f.start, f.offset);
+                  stop = sym f.stop;
+                  text = refl;
+                };
+          };
+      ended = λ e. absurd (last_is_turn e refl);
+    }
+
+pub turns-led : {start : ℕ} {s : Run} {came wrote : List ℕ} {r : Run} {x : Ahead} → First start s → Turns s came wrote r x → Led came wrote r x
+turns-led {start = start} {s = s} f begin = led-start start s f
+turns-led f (then {came} {wrote} m x t g) = g.led came wrote (turns-led f t).reached
+
+pub turns_from : {s : Run} {came wrote : List ℕ} {r : Run} {x : Ahead} → Turns s came wrote r x → r.start ≡ s.start
+turns_from begin = refl
+turns_from (then m x t g) = g.start ∙ turns_from t

@@ -1,2 +1,3 @@
 -- The laws and theorems of `service`.
 pub mod Laws
+pub mod Bytes

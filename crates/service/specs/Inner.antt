@@ -1,5 +1,5 @@
 -- Definitions that only inner functions of `service` cite: a reader of the promises can pass over them.
-use Rattle.std.specs.Prelude.{ℕ, ◌+◌, ◌-◌, ◌<◌, ◌≤◌, ◌≡◌, true, List, ◌++◌, length, take, Ok}
+use Rattle.std.specs.Prelude.{ℕ, ◌+◌, ◌-◌, ◌^◌, ◌<◌, ◌≤◌, ◌≡◌, true, List, ◌++◌, length, take, Ok}
 use Rattle.record.specs.Head.{head_limit}
 use Rattle.batch_promises.specs.GoingOn.{pauses, Call}
 use Rattle.batch.specs.declared.Stop.TheVariants.{Finished, Cut}
@@ -16,6 +16,10 @@ records = 1024
 abbrev pub call_with : List ℕ → List ℕ → Call
 call_with out text = record { budget = records; out = take (room_of (length out) (length text)) out }
 
+-- the bytes judged and the bytes read in, which both only rise
+abbrev pub passed : Run → ℕ
+passed r = r.offset + (r.offset + (r.end - r.at))
+
 -- r is s after one call, whose lines are what is to be written; nothing has come
 pub record Judging (s r : Run) : Type 0 where
   pub is : (S : Stream) (wrote : List ℕ) → Is S wrote s → Is (called (call_with s.out s.text) S) (wrote ++ wrote_in r) r
@@ -26,6 +30,7 @@ pub record Judging (s r : Run) : Type 0 where
   pub later : s.offset ≤ r.offset
   pub total : r.offset + (r.end - r.at) ≡ s.offset + (s.end - s.at)
   pub grew : pauses r.stop ≡ true → s.offset < r.offset
+  pub fits : passed r < 2 ^ 66
 
 -- the same bytes are held, from the front on, and nothing else has changed
 pub record Shifted (s r : Run) : Type 0 where
@@ -39,13 +44,9 @@ pub record Shifted (s r : Run) : Type 0 where
   pub told : wrote_in r ≡ wrote_in s
   pub came : r.came ≡ s.came
 
--- the bytes judged and the bytes read in, which both only rise
-abbrev pub passed : Run → ℕ
-passed r = r.offset + (r.offset + (r.end - r.at))
-
--- where another turn follows, one of them has risen
+-- where another turn follows, one of them has risen, and they stay below what numbers of 64 bits hold
 abbrev pub Moved : Run → Run → Ahead → Type 0
-Moved s r x = x ≡ Ok true → passed s < passed r
+Moved s r x = x ≡ Ok true → (passed s < passed r) × (passed r < 2 ^ 66)
 
 -- one read from s to r: whatever had come before, its bytes came after that; what the turn had written is told on
 pub record More (s r : Run) (x : Ahead) : Type 0 where

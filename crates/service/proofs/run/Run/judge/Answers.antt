@@ -29,4 +29,4 @@ invariant_of-self c =
 
 pub returns : goal.returns
 returns c =
-    judging c.args.self.now c.turn-t.result _ _ c.turn-t.ensures _ (search rules) refl refl refl refl refl refl refl refl refl (search rules) (search rules)
+    judging c.args.self.now c.turn-t.result _ _ c.turn-t.ensures _ (search rules) refl refl refl refl refl refl refl refl refl (search rules) (search rules) (search rules)
