@@ -3,7 +3,8 @@ use Prim.Native.Nat.{ℕ}
 use mathlib.Core.Path.{◌≡◌, subst}
 use mathlib.Core.Bool.{true}
 use mathlib.Core.List.{List, [], ◌++◌}
-use Rattle.std.specs.Prelude.{Option, Result, Ok, Err, OnOk}
+use native.Mathlib.Omega.{arith}
+use Rattle.std.specs.Prelude.{Option, Result, Ok, Err, OnOk, is_ok}
 use Rattle.std.specs.Io.KnownBytes.{Appends, Consumes, IsAtEnd}
 use Rattle.std.proofs.KnownBytes.{Consumes-nil, Consumes-trans, Appends-nil, Appends-trans}
 use Rattle.service.specs.declared.run.Run.{Run}
@@ -50,3 +51,9 @@ passed left₀ left₁ left₂ held₀ held₁ held₂ s r t f m x a k g y e =
       given = given_at left₀ left₁ left₂ held₀ held₁ held₂ t.came t.wrote f m x k g y e;
       end = end_at left₀ left₁ left₂ held₀ held₁ held₂ t.came t.wrote f m x k g y e;
     }
+
+-- what a write gives where it succeeded
+pub where_written : {T E U D : Type 0} {P Q : Type 0} (r : Result T E) (y : Result U D) → is_ok y ≡ is_ok r → (P → Q) → OnOk r P → OnOk y Q
+where_written (Ok x) (Ok y) e f p = f p
+where_written (Err x) (Ok y) e f p = let z : ◌≡◌ {A = ℕ} 0 1 = cc in absurd (omega arith)
+where_written r (Err y) e f p = tt

@@ -1,3 +1,4 @@
 -- The laws and theorems of `service`.
 pub mod Laws
 pub mod Bytes
+pub mod Promises
