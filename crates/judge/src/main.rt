@@ -31,10 +31,9 @@ fn offset_in(word: Option<&[u8]>) -> Offset
 // The same from the system's arguments; none where there are two, or one that does not fit.
 fn start_of(rt: &HostRuntime) -> Offset {
     let mut word = [0u8; WORD_MOST];
-    match rt.arg(2, &mut word) {
-        Err(FillError::NotPresent) => {}
-        _ => return Offset::Not,
-    }
+    let Err(FillError::NotPresent) = rt.arg(2, &mut word) else {
+        return Offset::Not;
+    };
     match rt.arg(1, &mut word) {
         Ok(n) => offset_in(Some(&word[..n])),
         Err(FillError::TooLong) => Offset::Not,

@@ -3,20 +3,17 @@ use Prim.Native.Nat.{ℕ, zero, suc, ◌+◌, ◌-◌, ◌^◌, ◌≤◌, ◌<�
 use mathlib.Core.Path.{◌≡◌, refl, sym, ap, subst, ◌∙◌}
 use mathlib.Core.Bool.{Bool, true, false}
 use mathlib.Core.List.{List, [], ◌∷◌, ◌++◌, append-nil, append_assoc}
-use native.Mathlib.Nat.{sub-zero, zero-sub, suc-sub-suc, sub-add-eq, add-zero}
+use native.Mathlib.Nat.{sub-zero, zero-sub, suc-sub-suc, sub-add-eq}
 use native.Mathlib.Omega.{arith}
 use lib.ListN.{length, take, drop, length-append, length-drop}
 use lib.Seq.{length-take-le, drop-drop, take-nil, drop-nil, take_at, take-add, take-append-le, drop_at}
 use lib.Dec.{ltb}
 use borrow.Author.Tests.{ltb-false}
 use borrow.Rule.Slice.PartMut.{put_mid, take_put}
-use Rattle.std.specs.Prelude.{Result, Ok, Err}
-use Rattle.record.specs.Head.{head_limit}
+use Rattle.std.specs.Prelude.{Result, Ok}
 use Rattle.verdict.specs.Verdict.{verdict_size}
 use Rattle.batch.specs.Walk.{Outcome, call_of}
 use Rattle.batch_promises.specs.GoingOn.{pauses, Call}
-use Rattle.batch.specs.declared.Stop.{Stop}
-use Rattle.batch.specs.declared.Stop.TheVariants.{Finished, Budget, Room, Cut, Offset, Long}
 use Rattle.report.specs.Text.{at_start, line_most}
 use Rattle.turn.specs.declared.Turned.{Turned}
 use Rattle.turn.specs.Turn.{room_of, call_lines, Turning, turn_of, turning_of}
@@ -26,7 +23,7 @@ use Rattle.turn.proofs.Laws.{room-least, room_in}
 use Rattle.service.specs.declared.run.Run.{Run}
 use Rattle.service.specs.Run.{waiting, Is, Reached, Called, Ahead, Led, came_in, wrote_in, TurnAdds, First, Turns, begin, then, last_ahead, Served}
 use Rattle.service.specs.declared.run.Failed.{Failed}
-use Rattle.service.specs.Inner.{records, call_with, Judging, Shifted, passed, Moved, More}
+use Rattle.service.specs.Inner.{records, call_with, Judging, Shifted, passed, More}
 
 pub held-length : (s : Run) → length (waiting s) ≡ s.end - s.at
 held-length s = length-take-le (s.end - s.at) (drop s.at s.buf) (omega (arith, length-drop s.at s.buf, s.order, s.within))

@@ -7,7 +7,7 @@ use mathlib.Core.Bool.{true, false}
 use mathlib.Core.List.{List, [], ◌++◌, append-nil}
 use native.Mathlib.Omega.{arith}
 use lib.ListN.{length, take, length-append}
-use Rattle.std.specs.Prelude.{Option, None, Some, Result, Ok, OnOk}
+use Rattle.std.specs.Prelude.{Option, None, Some, Ok}
 use Rattle.std.specs.Io.KnownBytes.{Appends}
 use Rattle.std.proofs.KnownBytes.{Appends-trans}
 use Rattle.record.specs.declared.Head.{Head}
@@ -24,7 +24,6 @@ use Rattle.turn_promises.specs.Output.{last_of, output_of}
 use Rattle.turn_promises.proofs.Promises.{all_done, same_output, at_long}
 use Rattle.turn_promises.proofs.Cutting.{Fed, fed_start, fed}
 use Rattle.service.specs.declared.run.Run.{Run}
-use Rattle.service.specs.declared.run.Failed.{Failed}
 use Rattle.service.specs.Run.{reads_on, wrote_in, Reached, Called, First, Served, Passed, Closing, Answered, last_row}
 use Rattle.service.proofs.Laws.{turns-led, turns_from}
 

@@ -15,10 +15,12 @@ use run::{Failed, Run};
 use std::io::{Read, Write};
 
 // The heading, the turns and the last line.
-fn write_all<I: Read, W: Write>(input: &mut I, output: &mut W, start: u64) -> Result<(), Failed>
+fn run_whole<I: Read, W: Write>(input: &mut I, output: &mut W, start: u64) -> Result<(), Failed>
     ensures { OnOk result (Answered (I.remaining input.old) start (W.contents output.old) (W.contents output.new)) }
 {
-    output.write_all(&report::heading()).map_err(Failed::Output)?;
+    output
+        .write_all(&report::heading())
+        .map_err(Failed::Output)?;
     let mut run = Run::new(start);
     run.serve(input, output)?;
     run.last_line();
@@ -35,7 +37,7 @@ pub fn run_from<R: Eprint, I: Read, W: Write>(
 ) -> bool
     ensures { result ≡ true → Answered (I.remaining input.old) start (W.contents output.old) (W.contents output.new) }
 {
-    match write_all(input, output, start) {
+    match run_whole(input, output, start) {
         Ok(()) => true,
         Err(why) => {
             let _ = rt.eprintln(format_args!("{why}"));

@@ -6,18 +6,19 @@
 ghost use Rattle.std.specs.Prelude.{◌≡◌, ◌+◌, ◌≤◌, ◌<◌, length};
 
 use batch::Stop;
-use std::fmt;
-use std::io;
 use std::io::{Read, Write};
+use std::{fmt, io};
 
 // The bytes that the buffer holds: a read asks for all that there is room for. The longest record has 4 + 8,192.
 const BUFFER: usize = 65536;
 
-// How many records a call can judge: its verdicts and their lines have room for so many.
+// How many records a call can judge.
 const RECORDS: usize = 1024;
 
+// Room for the verdicts of so many.
 const OUTPUT: usize = RECORDS * verdict::VERDICT_SIZE;
 
+// Room for the lines of so many.
 const TEXT: usize = RECORDS * report::LINE_MOST;
 
 // What failed, and why.
@@ -59,8 +60,7 @@ pub(crate) struct Run {
 }
 
 impl Run {
-    ghost use Rattle.std.specs.Prelude.{true, take};
-    ghost use Rattle.service.specs.Run.{reads_on, wrote_in, First, TurnAdds, Took, Gave, Served, Passed, Closing};
+    ghost use Rattle.service.specs.Run.{wrote_in, First, TurnAdds, Took, Gave, Served, Passed, Closing};
     ghost use Rattle.service.specs.Inner.{Judging, Shifted, More, Moved};
 
     // Before the first turn: nothing is held, and nothing was judged.
@@ -93,9 +93,16 @@ impl Run {
     fn judge(&mut self)
         ensures { Judging self.old self.new }
     {
+        // Lent whole, then cut: of a part of a field beside two that are lent as `&mut`, the checker has no rule yet.
         let buf = &self.buf;
         let held = &buf[self.at..self.end];
-        let t = turn::turn(held, self.offset, &mut self.out, &mut self.text, RECORDS as u64);
+        let t = turn::turn(
+            held,
+            self.offset,
+            &mut self.out,
+            &mut self.text,
+            RECORDS as u64,
+        );
         self.at += t.read;
         self.offset += t.read as u64;
         self.judged += t.judged;
@@ -122,7 +129,9 @@ impl Run {
         ensures took { Took (I.remaining input.old) (I.remaining input.new) self.new result }
     {
         self.shift();
-        let n = input.read(&mut self.buf[self.end..]).map_err(Failed::Input)?;
+        let n = input
+            .read(&mut self.buf[self.end..])
+            .map_err(Failed::Input)?;
         self.end += n;
         self.came = n;
         Ok(n > 0)
@@ -162,6 +171,11 @@ impl Run {
     pub(crate) fn last_line(&mut self)
         ensures { Closing self.old self.new }
     {
-        self.wrote = report::last_line(&mut self.text, u64::from(self.stop.number()), self.judged, self.offset - self.start);
+        self.wrote = report::last_line(
+            &mut self.text,
+            u64::from(self.stop.number()),
+            self.judged,
+            self.offset - self.start,
+        );
     }
 }

@@ -1,16 +1,10 @@
 -- `step` meets its contract: the call is one event more, its lines are what is written, and where it neither pauses nor ends there is room to read on.
-use mathlib.Core.Logic.{inl, inr}
-use native.Mathlib.Omega.{arith}
 use borrow.Author.Rules.{rules}
 use Rattle.service.proofs.Laws.{turned_call, turned_more}
 use Rattle.service.proofs.run.Run.step.Goals as goal
 
 pub returns-in_err-map_err-clause-turn_adds : goal.returns-in_err-map_err-clause-turn_adds
 returns-in_err-map_err-clause-turn_adds g c = turned_call _ _ c.judge.ensures _ (λ e. search rules)
-
-pub read_more-requires-clause-room : goal.read_more-requires-clause-room
-read_more-requires-clause-room g c =
-    elim c.in-Finished.is [ | inl e ↦ omega (arith, c.judge.ensures.none e) | inr e ↦ omega (arith, c.judge.ensures.short e) ]
 
 pub returns-in-Budget-clause-turn_adds : goal.returns-in-Budget-clause-turn_adds
 returns-in-Budget-clause-turn_adds g c = turned_call _ _ c.judge.ensures _ (λ e. search rules)

@@ -1,11 +1,11 @@
--- `write_all` meets its contract: heading, turns and last line are what was asked for.
+-- `run_whole` meets its contract: heading, turns and last line are what was asked for.
 use mathlib.Core.Path.{◌≡◌}
 use borrow.Author.Rules.{rules}
 use Rattle.std.specs.Prelude.{Ok}
 use Rattle.std.specs.Io.KnownBytes.{Appends}
 use Rattle.service.proofs.Bytes.{where_written}
 use Rattle.service.proofs.Promises.{answered}
-use Rattle.service.proofs.write_all.Goals as goal
+use Rattle.service.proofs.run_whole.Goals as goal
 
 pub returns : goal.returns
 returns g c =
