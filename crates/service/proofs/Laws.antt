@@ -1,35 +1,32 @@
--- Laws of the program's state: one call on what is held, a move to the front, bytes read in, and what has led to a state.
+-- Laws of the program's state: one call on what is held, bytes read in, and what has led to a state.
 use Prim.Native.Nat.{ℕ, zero, suc, ◌+◌, ◌-◌, ◌^◌, ◌≤◌, ◌<◌}
 use mathlib.Core.Path.{◌≡◌, refl, sym, ap, subst, ◌∙◌}
-use mathlib.Core.Bool.{true, false}
+use mathlib.Core.Bool.{Bool, true, false}
 use mathlib.Core.List.{List, [], ◌∷◌, ◌++◌, append-nil, append_assoc}
-use native.Mathlib.Nat.{sub-zero, zero-sub, suc-sub-suc, sub-add-eq, add-zero}
-use native.Mathlib.Numerals.{add-one}
+use native.Mathlib.Nat.{sub-zero, zero-sub, suc-sub-suc, sub-add-eq}
 use native.Mathlib.Omega.{arith}
-use lib.ListN.{length, get_or, set, take, drop, length-append, length-drop, length-set}
-use lib.Seq.{length-take-le, get_or-drop, take-suc, take-suc-set, drop-set-lt, drop-drop, take-nil, drop-nil, take_at, take-add}
-use borrow.Rule.Slice.PartMut.{mid_of, put_mid, same_len_mid, take_put}
-use Rattle.record.specs.Head.{head_limit}
+use lib.ListN.{length, take, drop, length-append, length-drop}
+use lib.Seq.{length-take-le, drop-drop, take-nil, drop-nil, take_at, take-add, take-append-le, drop_at}
+use lib.Dec.{ltb}
+use borrow.Author.Tests.{ltb-false}
+use borrow.Rule.Slice.PartMut.{put_mid, take_put}
+use Rattle.std.specs.Prelude.{Result, Ok}
+use Rattle.verdict.specs.Verdict.{verdict_size}
 use Rattle.batch.specs.Walk.{Outcome, call_of}
 use Rattle.batch_promises.specs.GoingOn.{pauses, Call}
-use Rattle.batch.specs.declared.Stop.{Stop}
-use Rattle.batch.specs.declared.Stop.TheVariants.{Finished, Budget, Room, Cut, Offset, Long}
-use Rattle.report.specs.Text.{at_start}
+use Rattle.report.specs.Text.{at_start, line_most}
 use Rattle.turn.specs.declared.Turned.{Turned}
 use Rattle.turn.specs.Turn.{room_of, call_lines, Turning, turn_of, turning_of}
 use Rattle.turn_promises.specs.Stream.{Event, more, call, Stream, started, called, next, feed, input}
 use Rattle.batch_promises.proofs.Sizes.{Sized, sized, goes}
 use Rattle.turn.proofs.Laws.{room-least, room_in}
-use Rattle.service.specs.declared.State.{State}
-use Rattle.service.specs.declared.Next.{Next}
-use Rattle.service.specs.declared.Way.TheVariants.{Again, Read, End}
-use Rattle.service.specs.declared.Ahead.{Ahead}
-use Rattle.service.specs.declared.Ahead.TheVariants.{Turn, LastLine, Nothing}
-use Rattle.service.specs.Run.{way_after, waiting, Good, Is, Reached, Called, Led, came_in, TurnAdds, first, Turns, begin, then, Served}
-use Rattle.service.specs.Inner.{records, call_with, Judging, Shifted, passed, Moved, More, Roomy}
+use Rattle.service.specs.declared.run.Run.{Run}
+use Rattle.service.specs.Run.{waiting, Is, Reached, Called, Ahead, Led, came_in, wrote_in, TurnAdds, First, Turns, begin, then, last_ahead, Served}
+use Rattle.service.specs.declared.run.Failed.{Failed}
+use Rattle.service.specs.Inner.{records, call_with, Judging, Shifted, passed, More}
 
-pub held-length : (buf : List ℕ) (s : State) → Good buf s → length (waiting buf s) ≡ s.end - s.at
-held-length buf s g = length-take-le (s.end - s.at) (drop s.at buf) (omega (arith, length-drop s.at buf, g.order, g.within))
+pub held-length : (s : Run) → length (waiting s) ≡ s.end - s.at
+held-length s = length-take-le (s.end - s.at) (drop s.at s.buf) (omega (arith, length-drop s.at s.buf, s.order, s.within))
 
 drop-take : (m n : ℕ) (l : List ℕ) → drop m (take n l) ≡ take (n - m) (drop m l)
 drop-take zero n l = rw sub-zero
@@ -42,151 +39,83 @@ left_held : (buf : List ℕ) (at end n : ℕ) → take (end - (at + n)) (drop (a
 left_held buf at end n = sym (drop-take n (end - at) (drop at buf) ∙ rw (drop-drop, sub-add-eq))
 
 -- one call on what is held, from what `turn` ensures
-module _ (buf out text₀ : List ℕ) (s : State) (g : Good buf s) (r : Turned) (out₁ text₁ : List ℕ)
-    (q : turning_of r out₁ text₁ ≡ turn_of (waiting buf s) s.offset out text₀ records) where
+module _ (s : Run) (t : Turned) (out₁ text₁ : List ℕ) (q : turning_of t out₁ text₁ ≡ turn_of (waiting s) s.offset s.out s.text records) where
   abbrev c : Call
-  c = call_with out text₀
+  c = call_with s.out s.text
 
   abbrev o : Outcome
-  o = call_of (waiting buf s) s.offset c.out c.budget
+  o = call_of (waiting s) s.offset c.out c.budget
 
-  z : Sized (waiting buf s) s.offset c.out o
-  z = sized (waiting buf s) s.offset c.out c.budget
+  z : Sized (waiting s) s.offset c.out o
+  z = sized (waiting s) s.offset c.out c.budget
 
-  the_stop : r.stop ≡ o.stop
+  the_stop : t.stop ≡ o.stop
   unfolding turn_of
   the_stop = ap (λ (x : Turning). x.stop) q
 
-  the_judged : r.judged ≡ o.judged
+  the_judged : t.judged ≡ o.judged
   unfolding turn_of
   the_judged = ap (λ (x : Turning). x.judged) q
 
-  the_read : r.read ≡ o.read
+  the_read : t.read ≡ o.read
   unfolding turn_of
   the_read = ap (λ (x : Turning). x.read) q
 
-  the_written : r.text ≡ length (call_lines o)
+  the_written : t.text ≡ length (call_lines o)
   unfolding turn_of
   the_written = ap (λ (x : Turning). x.written) q
 
-  the_text : text₁ ≡ at_start (call_lines o) text₀
+  the_text : text₁ ≡ at_start (call_lines o) s.text
   unfolding turn_of
   the_text = ap (λ (x : Turning). x.text) q
 
-  pub read-inside : s.at + r.read ≤ s.end
-  read-inside = omega (arith, the_read, z.inside, held-length buf s g, g.order)
+  pub read-inside : s.at + t.read ≤ s.end
+  read-inside = omega (arith, the_read, z.inside, held-length s, s.order)
 
-  pub read_fits : s.offset < 2 ^ 64 → s.offset + r.read < 2 ^ 64
+  pub read_fits : s.offset < 2 ^ 64 → s.offset + t.read < 2 ^ 64
   read_fits h = rw the_read (z.fits h)
 
-  pub few : r.judged ≤ r.read
+  pub few : t.judged ≤ t.read
   few = omega (arith, the_judged, the_read, z.few)
 
-  abbrev after : State
-  after =
-      record { at = s.at + r.read; end = s.end; start = s.start; offset = s.offset + r.read; judged = s.judged + r.judged; stop = r.stop }
+  pub lines-inside : t.text ≤ length text₁
+  lines-inside =
+      omega (arith, the_written, ap length the_text, length-append (call_lines o) (drop (length (call_lines o)) s.text))
 
-  the_lines : take r.text text₁ ≡ call_lines o
-  the_lines = rw (the_text, the_written) (take_at (call_lines o) (drop (length (call_lines o)) text₀) (length (call_lines o)) refl)
+  the_lines : take t.text text₁ ≡ call_lines o
+  the_lines = rw (the_text, the_written) (take_at (call_lines o) (drop (length (call_lines o)) s.text) (length (call_lines o)) refl)
 
-  is-called : (S : Stream) (wrote : List ℕ) → Is S wrote buf s → Is (called c S) (wrote ++ take r.text text₁) buf after
-  is-called S wrote i =
-      let e : call_of S.held S.offset c.out c.budget ≡ o = rw (i.bytes, i.offset) in
-      record {
-        bytes = rw (e, i.bytes, the_read) (sym (left_held buf s.at s.end o.read));
-        offset = rw (e, i.offset, the_read);
-        judged = rw (e, i.judged, the_judged);
-        read = rw e (omega (arith, i.read, the_read));
-        stop = rw (e, the_stop);
-        text = rw (e, i.text, the_lines);
-      }
+  -- and the state after it
+  module _ (r : Run) (b : r.buf ≡ s.buf) (x : r.text ≡ text₁) (a : r.at ≡ s.at + t.read) (e : r.end ≡ s.end) (i : r.start ≡ s.start)
+      (f : r.offset ≡ s.offset + t.read) (j : r.judged ≡ s.judged + t.judged) (p : r.stop ≡ t.stop) (w : r.wrote ≡ t.text) (n : r.came ≡ 0) where
+    is-called : (S : Stream) (wrote : List ℕ) → Is S wrote s → Is (called c S) (wrote ++ wrote_in r) r
+    is-called S wrote i' =
+        let h : call_of S.held S.offset c.out c.budget ≡ o = rw (i'.bytes, i'.offset) in
+        record {
+          bytes = rw (h, i'.bytes, a, e, b, the_read) (sym (left_held s.buf s.at s.end o.read));
+          offset = rw (h, i'.offset, f, the_read);
+          judged = rw (h, i'.judged, j, the_judged);
+          read = rw h (omega (arith, i'.read, the_read, i, f));
+          stop = rw (h, p, the_stop);
+          text = rw (h, i'.text, w, x, the_lines);
+        }
 
-  pub judging : length text₁ ≡ length text₀ → Judging buf c text₁ s after r.text
-  judging l =
-      record {
-        is = is-called;
-        start = refl;
-        inside = omega (arith, the_written, l, ap length the_text, length-append (call_lines o) (drop (length (call_lines o)) text₀), length-drop (length (call_lines o)) text₀);
-        none = λ e. omega (arith, z.none (sym the_stop ∙ e), the_read, held-length buf s g, g.order);
-        short = λ e. omega (arith, z.short (sym the_stop ∙ e), the_read, held-length buf s g, g.order);
-        later = omega arith;
-        total = omega (arith, read-inside);
-        grew = λ v p. omega (arith, few, the_judged, goes (waiting buf s) s.offset c.out c.budget (omega arith) v (ap pauses (sym the_stop) ∙ p));
-        good =
-            record {
-              order = read-inside;
-              within = g.within;
-              counts = omega (arith, g.counts, few);
-            };
-      }
-
--- a copy towards the front: what is passed is the bytes from `at` on, and the rest is as it was
-pub record Moving (buf₀ : List ℕ) (at n : ℕ) (buf : List ℕ) (i : ℕ) : Type 0 where
-  pub upto : i ≤ n
-  pub same : length buf ≡ length buf₀
-  pub moved : take i buf ≡ take i (drop at buf₀)
-  pub rest : drop i buf ≡ drop i buf₀
-
-pub move_start : (buf : List ℕ) (at n : ℕ) → Moving buf at n buf 0
-move_start buf at n = record { upto = omega arith; same = refl; moved = refl; rest = refl }
-
-pub move_on : (buf₀ : List ℕ) (at n : ℕ) (buf : List ℕ) (i : ℕ) → at + n ≤ length buf₀ → Moving buf₀ at n buf i → i < n
-    → Moving buf₀ at n (set buf i (get_or buf (at + i) 0)) (i + 1)
-move_on buf₀ at n buf i f g h =
-    let v : ℕ = get_or buf (at + i) 0 in
-    let c : i + at ≡ at + i = omega arith in
-    let e : v ≡ get_or (drop at buf₀) i 0 =
-    sym (rw c at (get_or-drop i buf at 0)) ∙ ap (λ (l : List ℕ). get_or l at 0) g.rest ∙ rw (get_or-drop i buf₀ at 0, get_or-drop at buf₀ i 0, c) in
-    record {
-      upto = omega arith;
-      same = length-set buf i v ∙ g.same;
-      moved =
-          rw (add-one, take-suc-set buf i v (omega (arith, g.same)), take-suc (drop at buf₀) i 0 (omega (arith, length-drop at buf₀)))
-          (rw (g.moved, e));
-      rest = drop-set-lt (i + 1) buf i v (omega arith) ∙ sym (drop-drop 1 i buf) ∙ ap (drop 1) g.rest ∙ drop-drop 1 i buf₀;
-    }
-
-pub move_done : (buf₀ : List ℕ) (at n : ℕ) (buf : List ℕ) (i : ℕ) → Moving buf₀ at n buf i → n ≤ i → take n buf ≡ take n (drop at buf₀)
-move_done buf₀ at n buf i g h = let e : i ≡ n = omega (arith, g.upto) in rw e at g.moved
-
-pub shifted : (buf₀ buf : List ℕ) (s : State) → Good buf₀ s → length buf ≡ length buf₀ → take (s.end - s.at) buf ≡ take (s.end - s.at) (drop s.at buf₀)
-    → Shifted buf₀ buf s (record { at = 0; end = s.end - s.at; start = s.start; offset = s.offset; judged = s.judged; stop = s.stop })
-shifted buf₀ buf s g l e =
-    record {
-      same = simp sub-zero e;
-      at = refl;
-      end = refl;
-      start = refl;
-      offset = refl;
-      judged = refl;
-      stop = refl;
-      good = record { order = omega arith; within = omega (arith, g.within); counts = g.counts };
-    }
-
--- the same state, with other bytes past those that are held
-is-moved : (S : Stream) (wrote buf₀ buf : List ℕ) (s r : State) → Shifted buf₀ buf s r → Is S wrote buf₀ s → Is S wrote buf r
-is-moved S wrote buf₀ buf s r h i =
-    record {
-      bytes = i.bytes ∙ sym h.same;
-      offset = i.offset ∙ sym h.offset;
-      judged = i.judged ∙ sym h.judged;
-      read = omega (arith, i.read, h.offset, h.start);
-      stop = i.stop ∙ sym h.stop;
-      text = i.text;
-    }
-
-called-moved : (came wrote buf₀ buf : List ℕ) (s r : State) → Shifted buf₀ buf s r → Called came wrote buf₀ s → Called came wrote buf r
-called-moved came wrote buf₀ buf s r h k =
-    record {
-      events = k.events;
-      last = k.last;
-      all = k.all;
-      is =
-          subst (λ (x : ℕ). Is (called k.last (feed k.events (started x))) wrote buf r) (sym h.start)
-          (is-moved (called k.last (feed k.events (started s.start))) wrote buf₀ buf s r h k.is);
-      ends = rw h.stop k.ends;
-      good = h.good;
-    }
+    pub judging : verdict_size ≤ length s.out → line_most ≤ length s.text → passed r < 2 ^ 66 → Judging s r
+    judging v l y =
+        let m = room_of (length s.out) (length s.text) in
+        let k : length c.out ≡ m = length-take-le m s.out (room_in (length s.out) (length s.text) m refl) in
+        let g = room-least (length s.out) (length s.text) v l in
+        record {
+          is = is-called;
+          start = i;
+          came = n;
+          none = λ d. omega (arith, z.none (sym the_stop ∙ (sym p ∙ d)), the_read, held-length s, s.order, a, e);
+          short = λ d. omega (arith, z.short (sym the_stop ∙ (sym p ∙ d)), the_read, held-length s, s.order, a, e);
+          later = omega (arith, f);
+          total = omega (arith, read-inside, f, a, e);
+          grew = λ d. omega (arith, f, few, the_judged, goes (waiting s) s.offset c.out c.budget (omega arith) (rw k g) (ap pauses (sym the_stop ∙ sym p) ∙ d));
+          fits = y;
+        }
 
 -- one event more: the run goes on by it, and its bytes came after the others
 feed-more : (es : List Event) (e : Event) (S : Stream) → feed (es ++ (e ∷ [])) S ≡ next e (feed es S)
@@ -208,297 +137,200 @@ input-call : (es : List Event) (c : Call) → input (es ++ (call c ∷ [])) ≡ 
 unfolding input
 input-call es c = input-more es (call c) ∙ rw append-nil
 
-called-reached : (came wrote buf : List ℕ) (s : State) → Called came wrote buf s → Reached came wrote buf s
-called-reached came wrote buf s k =
+called-reached : (came wrote : List ℕ) (r : Run) → Called came wrote r → Reached came wrote r
+called-reached came wrote r k =
     record {
       events = k.events ++ (call k.last ∷ []);
       all = input-call k.events k.last ∙ k.all;
-      is = rw (feed-more k.events (call k.last) (started s.start)) k.is;
-      good = k.good;
+      is = rw (feed-more k.events (call k.last) (started r.start)) k.is;
     }
 
--- n bytes more stand after those that are held
-abbrev pub longer : State → ℕ → State
-longer s n = record { at = s.at; end = s.end + n; start = s.start; offset = s.offset; judged = s.judged; stop = s.stop }
+-- no two cases of what follows are equal
+pub last_is_turn : {x : Ahead} → x ≡ Ok false → x ≡ Ok true → ⊥
+last_is_turn e f = let z : ◌≡◌ {A = Ahead} (Ok false) (Ok true) = sym e ∙ f in let y : ◌≡◌ {A = ℕ} 0 1 = cc in absurd (omega arith)
 
-reached-more : (came wrote buf : List ℕ) (s : State) (n : ℕ) → s.end + n ≤ length buf → Reached came wrote buf s
-    → Reached (came ++ take n (drop (s.end + n - n) buf)) wrote buf (longer s n)
-reached-more came wrote buf s n h k =
-    let d : s.end + n - n ≡ s.end = omega arith in
-    let b = take n (drop s.end buf) in
-    let i = k.is in
-    let g = k.good in
-    let e : s.end + n - s.at ≡ s.end - s.at + n = omega (arith, g.order) in
-    let f : s.at + (s.end - s.at) ≡ s.end = omega (arith, g.order) in
-    rw d
-    (record {
-      events = k.events ++ (more b ∷ []);
-      all = input-bytes k.events b ∙ ap (λ (l : List ℕ). l ++ b) k.all;
-      is = rw (feed-more k.events (more b) (started s.start))
-          (record {
-            bytes = rw (e, take-add, drop-drop, f) (ap (λ (l : List ℕ). l ++ b) i.bytes);
-            offset = i.offset;
-            judged = i.judged;
-            read = i.read;
-            stop = i.stop;
-            text = i.text;
-          });
-      good = record { order = omega (arith, g.order); within = h; counts = g.counts };
-    })
+-- the same state, with other bytes past those that are held, and with n bytes more after these
+module _ (s r : Run) (n : ℕ) (a : r.at ≡ 0) (e : r.end ≡ s.end - s.at + n) (h : take (s.end - s.at) r.buf ≡ waiting s)
+    (i : r.start ≡ s.start) (f : r.offset ≡ s.offset) (j : r.judged ≡ s.judged) (p : r.stop ≡ s.stop) (w : wrote_in r ≡ wrote_in s)
+    (c : r.came ≡ n) where
+  d : r.end - r.came ≡ s.end - s.at
+  d = omega (arith, e, c)
 
--- no two cases of an enum are equal
-pub nothing_is_last : Nothing ≡ LastLine → ⊥
-nothing_is_last e = let z : ◌≡◌ {A = ℕ} 0 1 = cc in absurd (omega arith)
+  held_more : waiting s ++ came_in r ≡ waiting r
+  held_more = rw (← h, d, c, a, e, sub-zero, take-add) refl
 
-pub turn_is_last : Turn ≡ LastLine → ⊥
-turn_is_last e = let z : ◌≡◌ {A = ℕ} 0 1 = cc in absurd (omega arith)
-
-pub last_is_turn : LastLine ≡ Turn → ⊥
-last_is_turn e = let z : ◌≡◌ {A = ℕ} 0 1 = cc in absurd (omega arith)
-
-pub nothing_is_turn : Nothing ≡ Turn → ⊥
-nothing_is_turn e = let z : ◌≡◌ {A = ℕ} 0 1 = cc in absurd (omega arith)
-
-again_is_read : Again ≡ Read → ⊥
-again_is_read e = let z : ◌≡◌ {A = ℕ} 0 1 = cc in absurd (omega arith)
-
-pub end-is-read : End ≡ Read → ⊥
-end-is-read e = let z : ◌≡◌ {A = ℕ} 0 1 = cc in absurd (omega arith)
-
--- bytes read in past those that are held, once these are at the front
-module _ (buf₀ buf₁ part : List ℕ) (s t : State) (h : Shifted buf₀ buf₁ s t)
-    (l : length part ≡ length (mid_of t.end (length buf₁ - t.end) buf₁)) where
-  abbrev read : List ℕ
-  read = put_mid t.end (length buf₁ - t.end) buf₁ part
-
-  same_size : length read ≡ length buf₁
-  same_size = same_len_mid t.end (length buf₁ - t.end) buf₁ part l
-
-  still_held : waiting read t ≡ waiting buf₁ t
-  still_held = rw (h.at, sub-zero) (take_put t.end (length buf₁ - t.end) buf₁ part h.good.within)
-
-  still_shifted : Shifted buf₀ read s t
-  still_shifted =
+  is-more : (S : Stream) (wrote : List ℕ) → Is S wrote s → Is (next (more (came_in r)) S) wrote r
+  is-more S wrote k =
       record {
-        same = still_held ∙ h.same;
-        at = h.at;
-        end = h.end;
-        start = h.start;
-        offset = h.offset;
-        judged = h.judged;
-        stop = h.stop;
-        good = record { order = h.good.order; within = omega (arith, h.good.within, same_size); counts = h.good.counts };
+        bytes = rw k.bytes held_more;
+        offset = k.offset ∙ sym f;
+        judged = k.judged ∙ sym j;
+        read = omega (arith, k.read, f, i);
+        stop = k.stop ∙ sym p;
+        text = k.text;
       }
 
-  still_called : (came wrote : List ℕ) → Called came wrote buf₀ s → Called came wrote read t
-  still_called came wrote k = called-moved came wrote buf₀ read s t still_shifted k
-
-  still_reached : (came wrote : List ℕ) → Called came wrote buf₀ s → Reached came wrote read t
-  still_reached came wrote k = called-reached came wrote read t (still_called came wrote k)
-
-  pub more_failed : (w : ℕ) → More buf₀ s w read (record { s = t; ahead = Nothing; wrote = w; came = 0 })
-  more_failed w =
+  reached-more : (came wrote : List ℕ) → Reached came wrote s → Reached (came ++ came_in r) wrote r
+  reached-more came wrote k =
       record {
-        led = λ came wrote k. rw append-nil (record { reached = still_reached came wrote k; ended = λ e. absurd (nothing_is_last e) });
-        start = h.start;
-        wrote = refl;
+        events = k.events ++ (more (came_in r) ∷ []);
+        all = input-bytes k.events (came_in r) ∙ ap (λ (l : List ℕ). l ++ came_in r) k.all;
+        is = rw (feed-more k.events (more (came_in r)) (started r.start))
+            (subst (λ (x : ℕ). Is (next (more (came_in r)) (feed k.events (started x))) wrote r) (sym i) (is-more (feed k.events (started s.start)) wrote k.is));
       }
 
-  pub more-ended : (w : ℕ) → More buf₀ s w read (record { s = t; ahead = LastLine; wrote = w; came = 0 })
-  more-ended w =
+  none_more : n ≡ 0 → came_in r ≡ []
+  none_more y = rw (c, y)
+
+  still : n ≡ 0 → waiting s ≡ waiting r
+  still y = sym (append-nil (waiting s)) ∙ ap (λ (l : List ℕ). waiting s ++ l) (sym (none_more y)) ∙ held_more
+
+  is-still : n ≡ 0 → (S : Stream) (wrote : List ℕ) → Is S wrote s → Is S wrote r
+  is-still y S wrote k =
       record {
-        led = λ came wrote k. rw append-nil (record { reached = still_reached came wrote k; ended = λ e. still_called came wrote k });
-        start = h.start;
-        wrote = refl;
+        bytes = k.bytes ∙ still y;
+        offset = k.offset ∙ sym f;
+        judged = k.judged ∙ sym j;
+        read = omega (arith, k.read, f, i);
+        stop = k.stop ∙ sym p;
+        text = k.text;
       }
 
-  pub more-came : (w n : ℕ) → t.end + n ≤ length read → More buf₀ s w read (record { s = longer t n; ahead = Turn; wrote = w; came = n })
-  more-came w n f =
+  called-still : n ≡ 0 → (came wrote : List ℕ) → Called came wrote s → Called (came ++ came_in r) wrote r
+  called-still y came wrote k =
+      record {
+        events = k.events;
+        last = k.last;
+        all = k.all ∙ sym (append-nil came) ∙ ap (λ (l : List ℕ). came ++ l) (sym (none_more y));
+        is =
+            subst (λ (x : ℕ). Is (called k.last (feed k.events (started x))) wrote r) (sym i)
+            (is-still y (called k.last (feed k.events (started s.start))) wrote k.is);
+        ends = rw p k.ends;
+      }
+
+  pub has_more : (x : Ahead) → (x ≡ Ok false → n ≡ 0) → More s r x
+  has_more x y =
       record {
         led =
             λ came wrote k.
-            record { reached = reached-more came wrote read t n f (still_reached came wrote k); ended = λ e. absurd (turn_is_last e) };
-        start = h.start;
-        wrote = refl;
+            record { reached = reached-more came wrote (called-reached came wrote s k); ended = λ d. called-still (y d) came wrote k };
+        start = i;
+        told = w;
       }
 
-pub moved_more : (buf₀ buf : List ℕ) (s t : State) (w n : ℕ) → Shifted buf₀ buf s t → 0 < n
-    → Moved s (record { s = longer t n; ahead = Turn; wrote = w; came = n })
-moved_more buf₀ buf s t w n h p = record { moved = λ e. omega (arith, h.offset, h.at, h.end) }
+-- bytes read in past those that are held
+module _ (buf part : List ℕ) (end k : ℕ) (h : end ≤ length buf) where
+  still_held : take end (put_mid end k buf part) ≡ take end buf
+  still_held = take_put end k buf part h
 
-pub not_moved : (s : State) (n : Next) → (n.ahead ≡ Turn → ⊥) → Moved s n
-not_moved s n p = record { moved = λ e. absurd (p e) }
+  -- they are the first of the part
+  pub came_is : (n : ℕ) → n ≤ length part → take n (drop (end + n - n) (put_mid end k buf part)) ≡ take n part
+  came_is n m =
+      let d : end + n - n ≡ end = omega arith in
+      rw (d, drop_at (take end buf) _ end (length-take-le end buf h)) (take-append-le n part _ m)
 
--- a call in the program
-module _ (buf : List ℕ) (c : Call) (text : List ℕ) (s r : State) (n : ℕ) (j : Judging buf c text s r n) where
-  module _ (came wrote : List ℕ) (k : Reached came wrote buf s) where
-    here : Is (called c (feed k.events (started r.start))) (wrote ++ take n text) buf r
+-- what was held stands at the front still
+pub front_held : (s t : Run) (part : List ℕ) (k : ℕ) → Shifted s t → take (s.end - s.at) (put_mid t.end k t.buf part) ≡ waiting s
+front_held s t part k h =
+    let w : take t.end t.buf ≡ waiting t = rw (h.at, sub-zero) refl in
+    ap (λ (n : ℕ). take n (put_mid t.end k t.buf part)) (sym h.end) ∙ still_held t.buf part t.end k t.within ∙ w ∙ h.same
+
+pub none_read : {E : Type 0} (n : ℕ) → ◌≡◌ {A = Result Bool E} (Ok (ltb 0 n)) (Ok false) → n ≡ 0
+none_read n e = let b : ltb 0 n ≡ false = cc in omega (arith, ltb-false 0 n b)
+
+-- a turn whose call leads from s to r
+module _ (s r : Run) (j : Judging s r) where
+  module _ (came wrote : List ℕ) (k : Reached came wrote s) where
+    here : Is (called (call_with s.out s.text) (feed k.events (started r.start))) (wrote ++ wrote_in r) r
     here =
-        subst (λ (x : ℕ). Is (called c (feed k.events (started x))) (wrote ++ take n text) buf r) (sym j.start)
+        subst (λ (x : ℕ). Is (called (call_with s.out s.text) (feed k.events (started x))) (wrote ++ wrote_in r) r) (sym j.start)
         (j.is (feed k.events (started s.start)) wrote k.is)
 
-    judged-called : pauses r.stop ≡ false → Called came (wrote ++ take n text) buf r
-    judged-called p = record { events = k.events; last = c; all = k.all; is = here; ends = p; good = j.good }
+    judged-called : pauses r.stop ≡ false → Called came (wrote ++ wrote_in r) r
+    judged-called p = record { events = k.events; last = call_with s.out s.text; all = k.all; is = here; ends = p }
 
-    judged-reached : Reached came (wrote ++ take n text) buf r
+    judged-reached : Reached came (wrote ++ wrote_in r) r
     judged-reached =
         record {
-          events = k.events ++ (call c ∷ []);
-          all = input-call k.events c ∙ k.all;
-          is = rw (feed-more k.events (call c) (started r.start)) here;
-          good = j.good;
+          events = k.events ++ (call (call_with s.out s.text) ∷ []);
+          all = input-call k.events (call_with s.out s.text) ∙ k.all;
+          is = rw (feed-more k.events (call (call_with s.out s.text)) (started r.start)) here;
         }
 
-  -- a turn that hands its lines to a write
-  module _ (w : ℕ) (e : w ≡ n) where
-    as_told : (came wrote buf₁ : List ℕ) (m : Next) → Led came (wrote ++ take n text) buf₁ m → Led came (wrote ++ take w text) buf₁ m
-    as_told came wrote buf₁ m l = subst (λ (x : ℕ). Led came (wrote ++ take x text) buf₁ m) (sym e) l
+  no_byte : (came : List ℕ) → came ++ came_in r ≡ came
+  no_byte came = rw (j.came, append-nil)
 
-    -- and reads nothing
-    pub turned_call : (a : Ahead) → (a ≡ LastLine → pauses r.stop ≡ false)
-        → TurnAdds buf s buf text (record { s = r; ahead = a; wrote = w; came = 0 })
-    turned_call a p =
-        record {
-          led =
-              λ came wrote k.
-              rw append-nil
-              (as_told came wrote buf (record { s = r; ahead = a; wrote = w; came = 0 })
-              (record { reached = judged-reached came wrote k; ended = λ e. judged-called came wrote k (p e) }));
-          start = j.start;
-        }
+  -- it reads nothing
+  pub turned_call : (x : Ahead) → (x ≡ Ok false → pauses r.stop ≡ false) → TurnAdds s r x
+  turned_call x p =
+      record {
+        led =
+            λ came wrote k.
+            rw (no_byte came)
+            (record { reached = judged-reached came wrote k; ended = λ e. judged-called came wrote k (p e) });
+        start = j.start;
+      }
 
-    -- or reads on
-    pub turned_more : (buf₁ : List ℕ) (m : Next) → pauses r.stop ≡ false → More buf r w buf₁ m → TurnAdds buf s buf₁ text m
-    turned_more buf₁ m p g =
-        record {
-          led =
-              λ came wrote k.
-              subst (λ (x : ℕ). Led (came ++ came_in buf₁ m) (wrote ++ take x text) buf₁ m) (sym g.wrote)
-              (as_told (came ++ came_in buf₁ m) wrote buf₁ m (g.led came (wrote ++ take n text) (judged-called came wrote k p)));
-          start = g.start ∙ j.start;
-        }
+  -- or reads on
+  pub turned_more : (m : Run) (x : Ahead) → pauses r.stop ≡ false → More r m x → TurnAdds s m x
+  turned_more m x p g =
+      record {
+        led = λ came wrote k. rw g.told (g.led came (wrote ++ wrote_in r) (judged-called came wrote k p));
+        start = g.start ∙ j.start;
+      }
 
-  pub moved-after : (m : Next) → Moved r m → Moved s m
-  moved-after m g = record { moved = λ e. omega (arith, g.moved e, j.later, j.total) }
+-- the loop of turns
+pub record Going (s r : Run) : Type 0 where
+  pub came : List ℕ
+  pub wrote : List ℕ
+  pub turns : Turns s came wrote r (Ok true)
 
--- what follows a stop
-does_pause : (s : Stop) → way_after s ≡ Again → pauses s ≡ true
-does_pause Finished e = absurd (again_is_read (sym e))
-does_pause Budget e = refl
-does_pause Room e = refl
-does_pause Cut e = absurd (again_is_read (sym e))
-does_pause Offset e = let z : ◌≡◌ {A = ℕ} 0 1 = cc in absurd (omega arith)
-does_pause Long e = let z : ◌≡◌ {A = ℕ} 0 1 = cc in absurd (omega arith)
+abbrev pub going_start : (s : Run) → Going s s
+going_start s = record { came = []; wrote = []; turns = begin }
 
-pub reads_on : (s : Stop) → way_after s ≡ Read → pauses s ≡ false
-reads_on Finished e = refl
-reads_on Budget e = absurd (again_is_read e)
-reads_on Room e = absurd (again_is_read e)
-reads_on Cut e = refl
-reads_on Offset e = refl
-reads_on Long e = refl
+module _ (s r : Run) (t : Going s r) (m : Run) (x : Ahead) (a : TurnAdds r m x) where
+  abbrev pub going_on : x ≡ Ok true → Going s m
+  going_on e =
+      record {
+        came = t.came ++ came_in m;
+        wrote = t.wrote ++ wrote_in m;
+        turns = subst (λ (y : Ahead). Turns s (t.came ++ came_in m) (t.wrote ++ wrote_in m) m y) e (then m x t.turns a);
+      }
 
-pub ends : (s : Stop) → way_after s ≡ End → pauses s ≡ false
-ends Finished e = refl
-ends Budget e = let z : ◌≡◌ {A = ℕ} 0 1 = cc in absurd (omega arith)
-ends Room e = let z : ◌≡◌ {A = ℕ} 0 1 = cc in absurd (omega arith)
-ends Cut e = refl
-ends Offset e = refl
-ends Long e = refl
-
-pub has_room : (s : Stop) (at end size : ℕ) → (s ≡ Finished → at ≡ end) → (s ≡ Cut → end < at + (4 + head_limit)) → 4 + head_limit ≤ size
-    → way_after s ≡ Read → end < at + size
-has_room Finished at end size f g h e = omega (arith, f refl)
-has_room Budget at end size f g h e = absurd (again_is_read e)
-has_room Room at end size f g h e = absurd (again_is_read e)
-has_room Cut at end size f g h e = omega (arith, g refl)
-has_room Offset at end size f g h e = absurd (end-is-read e)
-has_room Long at end size f g h e = absurd (end-is-read e)
-
-pub moved_call : (buf out text₀ text : List ℕ) (s r : State) (k w : ℕ) → Roomy buf out text₀ → Judging buf (call_with out text₀) text s r k
-    → way_after r.stop ≡ Again → Moved s (record { s = r; ahead = Turn; wrote = w; came = 0 })
-moved_call buf out text₀ text s r k w g j h =
-    let n = room_of (length out) (length text₀) in
-    let l = length-take-le n out (room_in (length out) (length text₀) n refl) in
-    let v = room-least (length out) (length text₀) g.verdict_fits g.line_fits in
-    record { moved = λ e. omega (arith, j.grew (rw l v) (does_pause r.stop h), j.total) }
+  pub going_over : (y : Result (Unit {0}) Failed) → x ≡ last_ahead y → Served s m y
+  going_over y e =
+      record {
+        came = t.came ++ came_in m;
+        wrote = t.wrote ++ wrote_in m;
+        turns = subst (λ (y : Ahead). Turns s (t.came ++ came_in m) (t.wrote ++ wrote_in m) m y) e (then m x t.turns a);
+      }
 
 -- turns lead from the start to where they are
-led-start : (start : ℕ) (buf : List ℕ) → Led [] [] buf (first start)
+led-start : (start : ℕ) (r : Run) → First start r → Led [] [] r (Ok true)
 unfolding feed input
-led-start start buf =
+led-start start r f =
     record {
       reached =
           record {
             events = [];
             all = refl;
-            is = record { bytes = refl; offset = refl; judged = refl; read = add-zero start; stop = refl; text = refl };
-            good = record { order = omega arith; within = omega arith; counts = omega arith };
+            is =
+                record {
+                  bytes = rw (f.at, f.end);
+                  offset = f.start ∙ sym f.offset;
+                  judged = sym f.judged;
+                  read = omega (arith, f.start, f.offset);
+                  stop = sym f.stop;
+                  text = refl;
+                };
           };
-      ended = λ e. absurd (turn_is_last e);
+      ended = λ e. absurd (last_is_turn e refl);
     }
 
-pub turns-led : {start : ℕ} {came wrote buf : List ℕ} {n : Next} → Turns start came wrote buf n → Led came wrote buf n
-turns-led {start = start} (begin buf) = led-start start buf
-turns-led (then {came} {wrote} buf₁ text₁ m t a g) = g.led came wrote (turns-led t).reached
+pub turns-led : {start : ℕ} {s : Run} {came wrote : List ℕ} {r : Run} {x : Ahead} → First start s → Turns s came wrote r x → Led came wrote r x
+turns-led {start = start} {s = s} f begin = led-start start s f
+turns-led f (then {came} {wrote} m x t g) = g.led came wrote (turns-led f t).reached
 
-pub turns_from : {start : ℕ} {came wrote buf : List ℕ} {n : Next} → Turns start came wrote buf n → n.s.start ≡ start
-turns_from (begin buf) = refl
-turns_from (then buf₁ text₁ m t a g) = g.start ∙ turns_from t
-
--- the loop of turns
-pub record Going (start : ℕ) (buf₀ out₀ text₀ buf out text : List ℕ) (n : Next) : Type 0 where
-  pub came : List ℕ
-  pub wrote : List ℕ
-  pub turns : Turns start came wrote buf n
-  pub fits : n.s.offset < 2 ^ 64
-  pub same_buf : length buf ≡ length buf₀
-  pub same_out : length out ≡ length out₀
-  pub same_text : length text ≡ length text₀
-
-abbrev pub going_start : (start : ℕ) (buf out text : List ℕ) → start < 2 ^ 64 → Going start buf out text buf out text (first start)
-going_start start buf out text h =
-    record { came = []; wrote = []; turns = begin buf; fits = h; same_buf = refl; same_out = refl; same_text = refl }
-
-module _ (start : ℕ) (buf₀ out₀ text₀ buf out text : List ℕ) (n : Next) (g : Going start buf₀ out₀ text₀ buf out text n) where
-  pub going_good : Good buf n.s
-  going_good = (turns-led g.turns).reached.good
-
-  abbrev pub going_on : (buf₁ out₁ text₁ : List ℕ) (m : Next) → n.ahead ≡ Turn → TurnAdds buf n.s buf₁ text₁ m → m.s.offset < 2 ^ 64
-      → length buf₁ ≡ length buf → length out₁ ≡ length out → length text₁ ≡ length text → Going start buf₀ out₀ text₀ buf₁ out₁ text₁ m
-  going_on buf₁ out₁ text₁ m a t f b o x =
-      record {
-        came = g.came ++ came_in buf₁ m;
-        wrote = g.wrote ++ take m.wrote text₁;
-        turns = then buf₁ text₁ m g.turns a t;
-        fits = f;
-        same_buf = b ∙ g.same_buf;
-        same_out = o ∙ g.same_out;
-        same_text = x ∙ g.same_text;
-      }
-
-  pub going_over : (n.ahead ≡ Turn → ⊥) → Served start buf n
-  going_over o = record { came = g.came; wrote = g.wrote; turns = g.turns; over = o }
-
-  pub roomy_kept : Roomy buf₀ out₀ text₀ → Roomy buf out text
-  roomy_kept r =
-      record {
-        record_fits = omega (arith, r.record_fits, g.same_buf);
-        verdict_fits = omega (arith, r.verdict_fits, g.same_out);
-        line_fits = omega (arith, r.line_fits, g.same_text);
-      }
-
--- the turns left, where one follows
-abbrev pub left : Ahead → ℕ → ℕ
-left Turn x = x
-left LastLine x = 0
-left Nothing x = 0
-
-pub fewer : (most : ℕ) (s : State) (n : Next) (a : Ahead) → a ≡ Turn → passed s < most → Moved s n
-    → left n.ahead (suc (most - passed n.s)) < left a (suc (most - passed s))
-fewer most s n a z p m = rw z (go n.ahead refl)
-  where
-    go : (x : Ahead) → n.ahead ≡ x → left x (suc (most - passed n.s)) < suc (most - passed s)
-    go Turn e = omega (arith, m.moved e)
-    go LastLine e = omega arith
-    go Nothing e = omega arith
+pub turns_from : {s : Run} {came wrote : List ℕ} {r : Run} {x : Ahead} → Turns s came wrote r x → r.start ≡ s.start
+turns_from begin = refl
+turns_from (then m x t g) = g.start ∙ turns_from t

@@ -7,8 +7,7 @@ use mathlib.Core.Bool.{true, false}
 use mathlib.Core.List.{List, [], ◌++◌, append-nil}
 use native.Mathlib.Omega.{arith}
 use lib.ListN.{length, take, length-append}
-use Rattle.std.specs.Prelude.{None, Some}
-use Rattle.std.specs.declared.option.Option.{Option}
+use Rattle.std.specs.Prelude.{Option, None, Some, Ok}
 use Rattle.std.specs.Io.KnownBytes.{Appends}
 use Rattle.std.proofs.KnownBytes.{Appends-trans}
 use Rattle.record.specs.declared.Head.{Head}
@@ -26,14 +25,11 @@ use Rattle.turn_promises.specs.Stream.{Stream, started, called, feed, input}
 use Rattle.turn_promises.specs.Output.{last_of, output_of}
 use Rattle.turn_promises.proofs.Promises.{all_done, same_output, at_long}
 use Rattle.turn_promises.proofs.Cutting.{Fed, fed_start, fed}
-use Rattle.service.specs.declared.State.{State}
-use Rattle.service.specs.declared.Next.{Next}
-use Rattle.service.specs.declared.Ahead.TheVariants.{LastLine}
-use Rattle.service.specs.declared.Way.TheVariants.{Read}
-use Rattle.service.specs.Run.{way_after, Reached, Called, Served, Passed, Closing, Answered, last_row}
-use Rattle.service.proofs.Laws.{turns-led, turns_from, nothing_is_last}
+use Rattle.service.specs.declared.run.Run.{Run}
+use Rattle.service.specs.Run.{reads_on, wrote_in, Reached, Called, First, Served, Passed, Closing, Answered, last_row}
+use Rattle.service.proofs.Laws.{turns-led, turns_from}
 
-module _ (came wrote buf : List ℕ) (s : State) (k : Called came wrote buf s) (h : s.start + length came < 2 ^ 64) where
+module _ (came wrote : List ℕ) (s : Run) (k : Called came wrote s) (h : s.start + length came < 2 ^ 64) where
   abbrev run : Stream
   run = called k.last (feed k.events (started s.start))
 
@@ -68,7 +64,7 @@ module _ (came wrote buf : List ℕ) (s : State) (k : Called came wrote buf s) (
       (sym same ∙ at_long k.events k.last s.start below (k.is.stop ∙ e) rest ∙ ap (λ (b : List ℕ). all_of (b ++ rest) s.start) k.all)
 
 -- at every moment, also where the program is ended from outside or fails: what was handed to writes are the lines of the first records of what came
-module _ (came wrote buf : List ℕ) (s : State) (k : Reached came wrote buf s) (h : s.start + length came < 2 ^ 64) where
+module _ (came wrote : List ℕ) (s : Run) (k : Reached came wrote s) (h : s.start + length came < 2 ^ 64) where
   abbrev now : Stream
   now = feed k.events (started s.start)
 
@@ -82,14 +78,15 @@ module _ (came wrote buf : List ℕ) (s : State) (k : Reached came wrote buf s) 
       sym k.is.text ∙ here.lines ∙ ap (verdict_lines now.done.judged) here.part.bytes
       ∙ ap (λ (j : ℕ). verdict_lines j (verdicts_of (take j (records_of came s.start)))) k.is.judged
 
--- the program writes the heading, then turns follow each other from the start on, then it writes the first k bytes of the text: where the
--- turns ended with a last line, all that is what SCOPE asks for the bytes that came
-pub program_writes : (start : ℕ) (buf text : List ℕ) (n : Next) (k : ℕ) (v : Served start buf n) → n.ahead ≡ LastLine → Closing text n.s k
-    → start + length v.came < 2 ^ 64 → heading ++ (v.wrote ++ take k text) ≡ output_of v.came start
-program_writes start buf text n k v e l h =
-    ap (λ (t : List ℕ). heading ++ (v.wrote ++ t)) l.is
-    ∙ whole_output v.came v.wrote buf n.s ((turns-led v.turns).ended e) (rw (turns_from v.turns) h)
-    ∙ ap (output_of v.came) (turns_from v.turns)
+-- the program writes the heading, then turns follow each other from the start on, then it writes the last line, which stands in the text:
+-- where the turns ended with it, all that is what SCOPE asks for the bytes that came
+pub program_writes : (start : ℕ) (s r l : Run) (u : Unit {0}) → First start s → (v : Served s r (Ok u)) → Closing r l
+    → start + length v.came < 2 ^ 64 → heading ++ (v.wrote ++ wrote_in l) ≡ output_of v.came start
+program_writes start s r l u f v c h =
+    let from : r.start ≡ start = turns_from v.turns ∙ f.start in
+    ap (λ (t : List ℕ). heading ++ (v.wrote ++ t)) c
+    ∙ whole_output v.came v.wrote r ((turns-led f v.turns).ended refl) (rw from h)
+    ∙ ap (output_of v.came) from
 
 pauses_not : true ≡ false → ⊥
 pauses_not e = let z : ◌≡◌ {A = ℕ} 0 1 = cc in absurd (omega arith)
@@ -104,40 +101,40 @@ not_offset (Ok a) e = let z : ◌≡◌ {A = ℕ} 0 1 = cc in absurd (omega arit
 
 -- what was written after the heading and the last line are all that SCOPE asks for the bytes that came and those that are left: none are
 -- left, or the run was ended by a length above the limit, after which nothing is read
-module _ (came wrote buf : List ℕ) (s : State) (k : Called came wrote buf s) (rest : List ℕ) (h : s.start + length (came ++ rest) < 2 ^ 64)
-    (r : way_after s.stop ≡ Read → rest ≡ []) where
+module _ (came wrote : List ℕ) (s : Run) (k : Called came wrote s) (rest : List ℕ) (h : s.start + length (came ++ rest) < 2 ^ 64)
+    (r : reads_on s.stop ≡ true → rest ≡ []) where
   came_below : s.start + length came < 2 ^ 64
   came_below = omega (arith, h, length-append came rest)
 
-  all_read : way_after s.stop ≡ Read → heading ++ (wrote ++ last_row s) ≡ output_of (came ++ rest) s.start
+  all_read : reads_on s.stop ≡ true → heading ++ (wrote ++ last_row s) ≡ output_of (came ++ rest) s.start
   all_read w =
       rw (r w, append-nil)
-      (whole_output came wrote buf s k came_below)
+      (whole_output came wrote s k came_below)
 
   by_stop : (x : Stop) → s.stop ≡ x → heading ++ (wrote ++ last_row s) ≡ output_of (came ++ rest) s.start
-  by_stop Finished e = all_read (ap way_after e)
+  by_stop Finished e = all_read (ap reads_on e)
   by_stop Budget e = absurd (pauses_not (sym (ap pauses e) ∙ k.ends))
   by_stop Room e = absurd (pauses_not (sym (ap pauses e) ∙ k.ends))
-  by_stop Cut e = all_read (ap way_after e)
-  by_stop Offset e = absurd (not_offset _ (sym (last-numbers came wrote buf s k came_below).0 ∙ e))
-  by_stop Long e = whatever_follows came wrote buf s k came_below e rest
+  by_stop Cut e = all_read (ap reads_on e)
+  by_stop Offset e = absurd (not_offset _ (sym (last-numbers came wrote s k came_below).0 ∙ e))
+  by_stop Long e = whatever_follows came wrote s k came_below e rest
 
   pub with_rest : heading ++ (wrote ++ last_row s) ≡ output_of (came ++ rest) s.start
   with_rest = by_stop s.stop refl
 
 -- so where all was written, and it is known which bytes the reader had and which the writer holds, the writer gained what SCOPE asks for them
-pub answered : (start : ℕ) (left₀ left held₀ held₁ held₂ held₃ : Option (List ℕ)) (head buf text : List ℕ) (n : Next) (k : ℕ) → head ≡ heading
-    → Appends held₀ held₁ head → Passed start left₀ left held₁ held₂ buf n → n.ahead ≡ LastLine → Closing text n.s k
-    → Appends held₂ held₃ (take k text) → Answered left₀ start held₀ held₃
-answered start None left held₀ held₁ held₂ held₃ head buf text n k e a p l c b = tt
-answered start (Some bytes) None held₀ held₁ held₂ held₃ head buf text n k e a p l c b = absurd p.taken
-answered start (Some bytes) (Some rest) held₀ held₁ held₂ held₃ head buf text n k e a p l c b = λ h.
-    let q : Called p.came p.wrote buf n.s = (turns-led p.turns).ended l in
-    let f : n.s.start ≡ start = turns_from p.turns in
+pub answered : (start : ℕ) (left₀ left held₀ held₁ held₂ held₃ : Option (List ℕ)) (head : List ℕ) (s r l : Run) (u : Unit {0})
+    → head ≡ heading → Appends held₀ held₁ head → First start s → Passed s left₀ left held₁ held₂ r (Ok u) → Closing r l
+    → Appends held₂ held₃ (wrote_in l) → Answered left₀ start held₀ held₃
+answered start None left held₀ held₁ held₂ held₃ head s r l u e a f p c b = tt
+answered start (Some bytes) None held₀ held₁ held₂ held₃ head s r l u e a f p c b = absurd p.taken
+answered start (Some bytes) (Some rest) held₀ held₁ held₂ held₃ head s r l u e a f p c b = λ h.
+    let q : Called p.came p.wrote r = (turns-led f p.turns).ended refl in
+    let i : r.start ≡ start = turns_from p.turns ∙ f.start in
     let g : bytes ≡ p.came ++ rest = p.taken in
-    let w : heading ++ (p.wrote ++ last_row n.s) ≡ output_of (p.came ++ rest) n.s.start = with_rest p.came p.wrote buf n.s q rest (rw (f, ← g) h) (p.end l) in
-    let v : Appends held₀ held₃ (head ++ (p.wrote ++ take k text)) =
-    Appends-trans held₀ held₁ held₃ head (p.wrote ++ take k text) a
-    (Appends-trans held₁ held₂ held₃ p.wrote (take k text) (p.given (λ o. nothing_is_last (sym o ∙ l))) b) in
-    let z : head ++ (p.wrote ++ take k text) ≡ output_of bytes start = rw (e, c.is, g, ← f) w in
+    let w : heading ++ (p.wrote ++ last_row r) ≡ output_of (p.came ++ rest) r.start = with_rest p.came p.wrote r q rest (rw (i, ← g) h) p.end in
+    let v : Appends held₀ held₃ (head ++ (p.wrote ++ wrote_in l)) =
+    Appends-trans held₀ held₁ held₃ head (p.wrote ++ wrote_in l) a
+    (Appends-trans held₁ held₂ held₃ p.wrote (wrote_in l) p.given b) in
+    let z : head ++ (p.wrote ++ wrote_in l) ≡ output_of bytes start = rw (e, c, g, ← i) w in
     rw z at v

@@ -19,8 +19,7 @@ pub struct Turned {
 fn room(out: usize, text: usize) -> usize
     ensures { result ≡ room_of out text }
 {
-    let most = text / report::LINE_MOST * verdict::VERDICT_SIZE;
-    if most < out { most } else { out }
+    out.min(text / report::LINE_MOST * verdict::VERDICT_SIZE)
 }
 
 // One call on the bytes held, into as much of the output as has room for its lines in the text, and these lines.
@@ -29,11 +28,9 @@ pub fn turn(held: &[u8], offset: u64, out: &mut [u8], text: &mut [u8], budget: u
 {
     let n = room(out.len(), text.len());
     let r = batch::run(held, offset, &mut out[..n], budget);
-    let stop = r.stop;
-    let w = r.written;
-    let t = report::lines(&out[..w], text);
+    let t = report::lines(&out[..r.written], text);
     Turned {
-        stop,
+        stop: r.stop,
         judged: r.judged,
         read: r.read,
         text: t.written,
