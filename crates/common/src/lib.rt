@@ -26,6 +26,7 @@ use answer::{Answer, Reason, Refusal, Step, must};
 use text::Set;
 
 // The text of a whole number: the bytes of a field from one place up to another, and the check number of the first step on them.
+// It keeps the field and two places, and no slice, since a refusal tells a place of the field.
 #[derive(Clone, Copy)]
 struct Part<'a> {
     s: &'a [u8],

@@ -88,9 +88,8 @@ fn zone_place(s: &[u8]) -> usize
     ensures { result ≡ zone_place s.now }
 {
     if text::at(s, 19) == b'.' {
-        20 + s
+        20 + s[20..]
             .iter()
-            .skip(20)
             .take_while(|b| Set::Digits.allows(**b))
             .count()
     } else {
