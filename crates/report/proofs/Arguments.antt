@@ -14,7 +14,7 @@ use Rattle.text.specs.Decimal.{digit_of, number_written, fitted}
 use Rattle.text.proofs.Classes.{digit_ends, is_digit_lem, below_digits, above_digits}
 use Rattle.text.proofs.Decimals.{decimal-most}
 use Rattle.text.proofs.Ranges.{every, is_true, both_parts, both_of}
-use Rattle.report.specs.Offset.{digits_only, within64, offset_of}
+use Rattle.report.specs.Offset.{digits_only, offset_of}
 
 -- the kit's digits are SCOPE's
 same_digit : (b : ℕ) → is_ascii_digit b ≡ is_digit b
@@ -42,6 +42,6 @@ unfolding number_written
 only_most t p = rw length-map at (decimal-most (map digit_of t) (small t p))
 
 -- and are an argument
-pub given : (t : List ℕ) → 1 ≤ length t → T (digits_only t) → offset_of t ≡ within64 (fitted (number_written t))
+pub given : (t : List ℕ) → 1 ≤ length t → T (digits_only t) → offset_of t ≡ fitted (number_written t)
 unfolding offset_of
 given t h p = rw (lt-ltb 0 (length t) (omega arith), is_true (digits_only t) p)

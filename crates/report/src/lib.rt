@@ -17,7 +17,6 @@ ghost use Rattle.report.specs.Text.{
 ghost use Rattle.report.specs.Offset.{digits_only, offset_of};
 ghost use Rattle.report.specs.Inner.{Put};
 
-use text::Number;
 use verdict::Verdict;
 
 // The longest line, and the longest last line.
@@ -130,8 +129,5 @@ pub fn parse(word: &[u8]) -> Option<u64>
     if word.is_empty() || !only_digits(word) {
         return None;
     }
-    match text::number_of(word) {
-        Number::Fits(n) => Some(n),
-        Number::Over => None,
-    }
+    text::number_of(word)
 }

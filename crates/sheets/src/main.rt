@@ -2,18 +2,19 @@
 // remainder, text) in a line.
 #![tactic(auto)]
 
+use answer::Numbers;
 use sheet::{Repaired, Sheet};
 use std::io;
 
 // Writes a call's result, and hands its sheet to the next call. A forged length may be past the text: then no text is written.
 fn show(rt: &impl Print, call: &str, r: Repaired) -> io::Result<Sheet> {
-    let answer = r.answer;
+    let told = Numbers::from(r.answer);
     let s = r.sheet;
     println!(rt;
         "{call} {} {} {} {} {} {} {}",
-        answer.number(),
-        answer.place(),
-        answer.value(),
+        told.number,
+        told.place,
+        told.value,
         s.kind,
         s.length,
         s.remainder,

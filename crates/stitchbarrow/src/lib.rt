@@ -19,7 +19,7 @@ ghost use Rattle.stitchbarrow.specs.Reply.{
 };
 ghost use Rattle.stitchbarrow.specs.Inner.{Replies};
 
-use answer::Answer;
+use answer::{Answer, Numbers};
 use sheet::{Repaired, Sheet};
 
 // What a function returns where a lent slice is too short for what it would write.
@@ -37,7 +37,7 @@ fn tell(a: Answer, answer: &mut [u8]) -> u8
 {
     let bytes = verdict::answer_bytes(a);
     answer[..bytes.len()].copy_from_slice(&bytes);
-    a.number()
+    Numbers::from(a).number
 }
 
 // The answer to a field, written to the first 12 bytes of `answer`.

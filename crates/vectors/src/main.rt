@@ -4,10 +4,9 @@
 
 ghost use Rattle.std.specs.Prelude.{◌-◌, ◌≤◌, ◌<◌, length};
 
-use answer::Answer;
+use answer::{Answer, Numbers};
 use std::io;
 use std::io::Read;
-use text::Number;
 
 const ANY_REFUSAL: u64 = 255;
 
@@ -21,11 +20,13 @@ struct Expected {
 
 impl Expected {
     fn met_by(self, a: Answer) -> bool {
-        let number = u64::from(a.number());
+        let told = Numbers::from(a);
         if self.answer == ANY_REFUSAL {
-            return number != 0;
+            return told.number != 0;
         }
-        number == self.answer && a.place() as u64 == self.place && a.value() == self.number
+        u64::from(told.number) == self.answer
+            && told.place as u64 == self.place
+            && told.value == self.number
     }
 }
 
@@ -56,10 +57,7 @@ impl<'a> Words<'a> {
 
 // The number that a word writes; one of 2^64 or more counts as 0.
 fn number_in(word: &[u8]) -> u64 {
-    match text::number_of(word) {
-        Number::Fits(n) => n,
-        Number::Over => 0,
-    }
+    text::number_of(word).unwrap_or(0)
 }
 
 // A capital hexadecimal digit's value, and 0 of any other byte. The library's `to_digit` takes small letters too.

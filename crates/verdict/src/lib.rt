@@ -4,7 +4,7 @@
 ghost use Rattle.std.specs.Prelude.{◌≡◌};
 ghost use Rattle.verdict.specs.Verdict.{answer_bytes, verdict, read_verdict};
 
-use answer::Answer;
+use answer::{Answer, Numbers};
 
 // How many bytes each record yields.
 pub const VERDICT_SIZE: usize = 24;
@@ -24,11 +24,12 @@ pub struct Verdict {
 pub fn answer_bytes(a: Answer) -> [u8; 12]
     ensures { result ≡ answer_bytes a }
 {
-    let place = (a.place() % 65536) as u16;
+    let told = Numbers::from(a);
+    let place = (told.place % 65536) as u16;
     let mut bytes = [0; 12];
-    bytes[0] = a.number();
+    bytes[0] = told.number;
     bytes[2..4].copy_from_slice(&place.to_le_bytes());
-    bytes[4..12].copy_from_slice(&a.value().to_le_bytes());
+    bytes[4..12].copy_from_slice(&told.value.to_le_bytes());
     bytes
 }
 
