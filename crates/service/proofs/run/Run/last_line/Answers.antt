@@ -7,4 +7,4 @@ pub invariant_of-self-clause-inside : goal.invariant_of-self-clause-inside
 invariant_of-self-clause-inside c = last-inside _ _ _ _ _ _ c.last_line-self.ensures c.last_line-self.auto.out
 
 pub returns : goal.returns
-returns c = rw (← c.number.ensures, ← c.from.ensures) (last-front _ _ _ _ _ _ c.last_line-self.ensures (search rules))
+returns c = rw (← c.from.ensures, ← c.from-2.ensures) (last-front _ _ _ _ _ _ c.last_line-self.ensures (search rules))
