@@ -39,7 +39,8 @@ impl fmt::Display for Failed {
 
 // The bytes of `buf` from `at` up to `end` are held: they came in and are not judged yet. `offset` is the stream offset of the first of
 // them, `start` that of the input's first byte; `judged` counts the records so far, and `stop` is why the last call stopped. The first
-// `wrote` bytes of the text are for a write, and the last `came` bytes that are held came in by the last turn.
+// `wrote` bytes of the text are for a write, and the last `came` bytes that are held came in by the last turn, which contracts alone ask.
+// Arrays with places beside them, and no `Vec`: the program has no heap.
 #[derive(Drop)]
 pub(crate) struct Run {
     buf: [u8; BUFFER],
