@@ -141,11 +141,26 @@ pub fn decode(s: &[u8], at: usize) -> Option<Char>
     by_row(s, at)
 }
 
-#[tactic(auto, using(crate::proofs::Ascii::by_bytes))]
+// Whether a text is ASCII, with no branch on a byte: one beyond ASCII has its highest bit set. The compiler reads eight as one word.
+#[tactic(auto, using(crate::proofs::Ascii::few_bits))]
+fn few_ascii(s: &[u8]) -> bool
+    ensures { result ≡ ascii s.now }
+{
+    s.iter().fold(0, |bits, b| bits | *b) < 128
+}
+
+// Eight bytes at a time, and the last eight by themselves, some of them a second time, so that there is no loop over the bytes that eight does not
+// divide. The library's `is_ascii` says the same, but it leaves a call in its caller, and a field is then slower than it may be.
 pub fn is_ascii(s: &[u8]) -> bool
     ensures { result ≡ ascii s.now }
 {
-    s.is_ascii()
+    match s.last_chunk::<8>() {
+        Some(last) => {
+            let (eights, _) = s.as_chunks::<8>();
+            eights.iter().all(|e| few_ascii(e)) && few_ascii(last)
+        }
+        None => few_ascii(s),
+    }
 }
 
 // A walk over the characters of a text, each with its place, up to the first place where none starts.
