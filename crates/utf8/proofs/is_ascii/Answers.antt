@@ -1,5 +1,5 @@
 -- `utf8::is_ascii` meets its contract: the whole eights and the last eight bytes are all of the text.
-use Rattle.std.proofs.Common.{◌≡◌, rules, tests, sym, ◌∙◌, ap, length, ◌/◌}
+use Rattle.std.proofs.Common.{◌≡◌, rules, tests, ◌∙◌, ap, length, ◌/◌}
 use Rattle.std.specs.List.{list_all}
 use Rattle.std.specs.Simd.{first_chunks}
 use Rattle.std.proofs.lemmas.Iterator.{YieldsList-from_slice}
