@@ -2,7 +2,7 @@
 #![tactic(auto)]
 
 ghost use Rattle.std.specs.Prelude.{◌≡◌, ◌+◌, ◌*◌, ◌%◌, ◌^◌, ◌<◌, length, drop};
-ghost use Rattle.utf8.specs.Rfc3629.{lead, lead_of, needed, well_formed, scalar_of, front};
+ghost use Rattle.utf8.specs.Rfc3629.{lead_of, needed, well_formed, scalar_of, front};
 ghost use Rattle.std.specs.Iterator.{YieldsFirst, item_count};
 ghost use Rattle.utf8.specs.Chars.{chars, placed, left, ascii, valid_prefix};
 ghost use Rattle.utf8.specs.Space.{white_space};
@@ -22,30 +22,23 @@ pub struct Lead {
     pub high: u8,
 }
 
-impl Lead {
-    fn new(width: usize, low: u8, high: u8) -> Option<Lead>
-        ensures { result ≡ lead width low high }
-    {
-        Some(Lead { width, low, high })
-    }
-}
-
 #[tactic(auto, unfolding(crate::specs::Rfc3629::lead_of))]
 pub fn lead_of(a: u8) -> Option<Lead>
     ensures { result ≡ lead_of a }
 {
-    match a {
-        0x00..=0x7F => Lead::new(1, 0, 0),
-        0xC2..=0xDF => Lead::new(2, 0x80, 0xBF),
-        0xE0 => Lead::new(3, 0xA0, 0xBF),
-        0xE1..=0xEC => Lead::new(3, 0x80, 0xBF),
-        0xED => Lead::new(3, 0x80, 0x9F),
-        0xEE..=0xEF => Lead::new(3, 0x80, 0xBF),
-        0xF0 => Lead::new(4, 0x90, 0xBF),
-        0xF1..=0xF3 => Lead::new(4, 0x80, 0xBF),
-        0xF4 => Lead::new(4, 0x80, 0x8F),
-        _ => None,
-    }
+    let (width, low, high) = match a {
+        0x00..=0x7F => (1, 0, 0),
+        0xC2..=0xDF => (2, 0x80, 0xBF),
+        0xE0 => (3, 0xA0, 0xBF),
+        0xE1..=0xEC => (3, 0x80, 0xBF),
+        0xED => (3, 0x80, 0x9F),
+        0xEE..=0xEF => (3, 0x80, 0xBF),
+        0xF0 => (4, 0x90, 0xBF),
+        0xF1..=0xF3 => (4, 0x80, 0xBF),
+        0xF4 => (4, 0x80, 0x8F),
+        _ => return None,
+    };
+    Some(Lead { width, low, high })
 }
 
 #[tactic(auto, unfolding(crate::specs::Space::white_space))]
