@@ -123,10 +123,7 @@ fn by_row(s: &[u8], at: usize) -> Option<Char>
 pub fn decode(s: &[u8], at: usize) -> Option<Char>
     ensures { result ≡ front (drop at s.now) }
 {
-    if s.len() <= at {
-        return None;
-    }
-    let a = s[at];
+    let a = *s.get(at)?;
     if a < 0x80 {
         let scalar = u32::from(a);
         return Some(Char { scalar, width: 1 });
