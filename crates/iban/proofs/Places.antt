@@ -1,5 +1,5 @@
 -- What the rule of an IBAN says fits a verdict: the characters are no more than the field's bytes, and each stands within them.
-use Prim.Native.Nat.{ℕ, zero, suc, pred, ◌+◌, ◌^◌, ◌≤◌, ◌<◌}
+use Prim.Native.Nat.{ℕ, zero, suc, ◌+◌, ◌^◌, ◌≤◌, ◌<◌}
 use mathlib.Core.Path.{refl}
 use mathlib.Core.Bool.{Bool, true, false, cond}
 use mathlib.Core.List.{List, [], ◌∷◌}
@@ -12,10 +12,8 @@ use Rattle.answer.specs.Result.{Refused, Step, Pass, Stop}
 use Rattle.answer.specs.declared.Reason.{Reason}
 use Rattle.answer.specs.declared.Reason.TheVariants.{Wrong}
 use Rattle.text.proofs.Near.{Near, Small, Short, near_pass, near_at, near_must, near_then, nears}
-use Rattle.utf8.specs.Chars.{then, chars_past, chars, widths, valid_prefix}
-use Rattle.utf8.specs.Rfc3629.{front}
+use Rattle.utf8.specs.Chars.{chars, widths, valid_prefix}
 use Rattle.utf8.specs.Space.{white_space}
-use Rattle.std.specs.Prelude.{Option, Some, None}
 use Rattle.utf8.specs.declared.Char.{Char}
 use Rattle.utf8.proofs.Promises.{longest}
 use Rattle.utf8.proofs.Walks.{few_chars}

@@ -57,6 +57,7 @@ fn drop_blanks(s: &[u8]) -> Result<Electronic, Refusal>
 }
 
 // The same for a field of which every byte is ASCII: each is a character, so that nothing is decoded and nothing is refused.
+// Apart from `drop_blanks` for speed: with that one for all fields an IBAN took 355 ns for 280, and missed its bar.
 fn drop_ascii_blanks(s: &[u8]) -> Electronic
     requires { ascii s.now ≡ true }
     ensures { Dropped s.now (Ok result) }

@@ -5,15 +5,14 @@ use mathlib.Core.Bool.{Bool, true, false, ◌&&◌, ◌||◌, cond}
 use mathlib.Core.List.{List, [], ◌∷◌}
 use mathlib.Core.Logic.{◌⊎◌, inl, inr, ⊎_elim}
 use native.Mathlib.Omega.{arith}
-use borrow.Author.Tests.{eqb-false}
-use lib.Dec.{T, leb, ltb, eqb, leb→le, ltb→lt}
+use lib.Dec.{T, leb, ltb, leb→le, ltb→lt}
 use lib.ListN.{length, get_or, drop, length-drop, drop_of_length-le}
 use lib.Seq.{drop-cons, get_or-drop, drop-nil, drop-drop}
 use Rattle.text.specs.Ranges.{within}
 use Rattle.text.proofs.Ranges.{even, on, evenly, within-ends, both_parts, either_parts, find-all}
 use Rattle.std.specs.Prelude.{Option, Some, None}
 use Rattle.utf8.specs.Rfc3629.{leads, lead_of, needed, well_formed, scalar_of, ch, by_row, char_of, front}
-use Rattle.utf8.specs.Chars.{chars_past, chars, widths}
+use Rattle.utf8.specs.Chars.{chars_past, chars}
 use Rattle.utf8.specs.declared.Lead.{Lead}
 use Rattle.utf8.specs.declared.Char.{Char}
 

@@ -1,6 +1,7 @@
 -- RFC 3629, section 4, UTF8-octets = *( UTF8-char ): the characters of a text, up to the first place where none starts.
 use Rattle.std.specs.Prelude.{ℕ, zero, suc, pred, ◌+◌, Bool, true, ◌&&◌, List, [], ◌∷◌, Option, Some, None, ltb, drop}
 use Rattle.utf8.specs.Rfc3629.{front}
+pub use Rattle.utf8.specs.Rfc3629.{ch}
 use Rattle.utf8.specs.declared.Char.{Char}
 use Rattle.utf8.specs.declared.Walk.{Walk}
 

@@ -2,7 +2,7 @@
 #![tactic(auto)]
 
 ghost use Rattle.std.specs.Prelude.{◌≡◌, ◌+◌, ◌*◌, ◌%◌, ◌^◌, ◌<◌, length, drop};
-ghost use Rattle.utf8.specs.Rfc3629.{lead, lead_of, needed, well_formed, scalar_of, front};
+ghost use Rattle.utf8.specs.Rfc3629.{lead_of, needed, well_formed, scalar_of, front};
 ghost use Rattle.std.specs.Iterator.{YieldsFirst, item_count};
 ghost use Rattle.utf8.specs.Chars.{chars, placed, left, ascii, valid_prefix};
 ghost use Rattle.utf8.specs.Space.{white_space};
@@ -22,30 +22,23 @@ pub struct Lead {
     pub high: u8,
 }
 
-impl Lead {
-    fn new(width: usize, low: u8, high: u8) -> Option<Lead>
-        ensures { result ≡ lead width low high }
-    {
-        Some(Lead { width, low, high })
-    }
-}
-
 #[tactic(auto, unfolding(crate::specs::Rfc3629::lead_of))]
 pub fn lead_of(a: u8) -> Option<Lead>
     ensures { result ≡ lead_of a }
 {
-    match a {
-        0x00..=0x7F => Lead::new(1, 0, 0),
-        0xC2..=0xDF => Lead::new(2, 0x80, 0xBF),
-        0xE0 => Lead::new(3, 0xA0, 0xBF),
-        0xE1..=0xEC => Lead::new(3, 0x80, 0xBF),
-        0xED => Lead::new(3, 0x80, 0x9F),
-        0xEE..=0xEF => Lead::new(3, 0x80, 0xBF),
-        0xF0 => Lead::new(4, 0x90, 0xBF),
-        0xF1..=0xF3 => Lead::new(4, 0x80, 0xBF),
-        0xF4 => Lead::new(4, 0x80, 0x8F),
-        _ => None,
-    }
+    let (width, low, high) = match a {
+        0x00..=0x7F => (1, 0, 0),
+        0xC2..=0xDF => (2, 0x80, 0xBF),
+        0xE0 => (3, 0xA0, 0xBF),
+        0xE1..=0xEC => (3, 0x80, 0xBF),
+        0xED => (3, 0x80, 0x9F),
+        0xEE..=0xEF => (3, 0x80, 0xBF),
+        0xF0 => (4, 0x90, 0xBF),
+        0xF1..=0xF3 => (4, 0x80, 0xBF),
+        0xF4 => (4, 0x80, 0x8F),
+        _ => return None,
+    };
+    Some(Lead { width, low, high })
 }
 
 #[tactic(auto, unfolding(crate::specs::Space::white_space))]
@@ -106,7 +99,9 @@ fn scalar(w: usize, a: u8, b: u8, c: u8, d: u8) -> u32
     }
 }
 
-// The character that starts at a place, by the row of RFC 3629's table that its first byte has.
+// The character that starts at a place, by the row of RFC 3629's table that its first byte has. Out of line, so that `decode` stays small enough
+// to be inlined: most characters are ASCII even in a text that is not.
+#[inline(never)]
 #[tactic(auto, using(crate::proofs::Chars::row_none, crate::proofs::Chars::row_bad, crate::proofs::Chars::row_char))]
 fn by_row(s: &[u8], at: usize) -> Option<Char>
     requires { at < length s.now }
@@ -130,10 +125,7 @@ fn by_row(s: &[u8], at: usize) -> Option<Char>
 pub fn decode(s: &[u8], at: usize) -> Option<Char>
     ensures { result ≡ front (drop at s.now) }
 {
-    if s.len() <= at {
-        return None;
-    }
-    let a = s[at];
+    let a = *s.get(at)?;
     if a < 0x80 {
         let scalar = u32::from(a);
         return Some(Char { scalar, width: 1 });
@@ -141,11 +133,26 @@ pub fn decode(s: &[u8], at: usize) -> Option<Char>
     by_row(s, at)
 }
 
-#[tactic(auto, using(crate::proofs::Ascii::by_bytes))]
+// Whether a text is ASCII, with no branch on a byte: one beyond ASCII has its highest bit set. The compiler reads eight as one word.
+#[tactic(auto, using(crate::proofs::Ascii::few_bits))]
+fn few_ascii(s: &[u8]) -> bool
+    ensures { result ≡ ascii s.now }
+{
+    s.iter().fold(0, |bits, b| bits | *b) < 128
+}
+
+// Eight bytes at a time, and the last eight by themselves, some of them a second time, so that there is no loop over the bytes that eight does not
+// divide. The library's `is_ascii` says the same and was tried: short texts took it a nanosecond or two longer.
 pub fn is_ascii(s: &[u8]) -> bool
     ensures { result ≡ ascii s.now }
 {
-    s.is_ascii()
+    match s.last_chunk::<8>() {
+        Some(last) => {
+            let (eights, _) = s.as_chunks::<8>();
+            eights.iter().all(|e| few_ascii(e)) && few_ascii(last)
+        }
+        None => few_ascii(s),
+    }
 }
 
 // A walk over the characters of a text, each with its place, up to the first place where none starts.

@@ -1,8 +1,7 @@
 -- `iban::drop_ascii_blanks` meets its contract: as `drop_blanks`, with each byte a character of its own.
-use Prim.Native.Nat.{◌%◌, ◌<◌}
 use mathlib.Core.Path.{◌≡◌, refl, sym, ◌∙◌, ap}
 use native.Mathlib.Omega.{arith}
-use lib.ListN.{length, get_or}
+use lib.ListN.{length}
 use Rattle.utf8.specs.Space.{white_space}
 use Rattle.utf8.proofs.Ascii.{ascii_below}
 use Rattle.utf8.proofs.Walks.{ascii_placed, placed_end}

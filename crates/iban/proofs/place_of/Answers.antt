@@ -1,5 +1,5 @@
 -- `iban::place_of` meets its contract: the k-th of the characters that are no blank.
-use Rattle.std.proofs.Common.{rules, tests, refl, sym, ap, ◌∙◌}
+use Rattle.std.proofs.Common.{rules, tests, refl}
 use Rattle.std.proofs.lemmas.Iterator.Consumers.{YieldsList-from_first, YieldsList-from_filter, YieldsList-at, nth_from_yields_List}
 use Rattle.utf8.specs.Chars.{left}
 use Rattle.iban.proofs.Electronics.{black, place_of_nth}
