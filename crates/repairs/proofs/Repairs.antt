@@ -8,21 +8,22 @@ use lib.Dec.{T, eqb, ltb, ltb→lt}
 use lib.ListN.{length, take, get_or, set}
 use lib.Seq.{get_or-take}
 use Rattle.answer.specs.Steps.{◌and_then◌}
-use Rattle.answer.specs.declared.Reason.{Reason}
 use Rattle.answer.specs.declared.Reason.TheVariants.{NoSheet, NoPlace, Unfit}
-use Rattle.std.specs.Prelude.{Err}
-use Rattle.answer.specs.Result.{Step, Pass, Stop}
-use Rattle.answer.proofs.Laws.{passes, stops, both_pass, test_held}
+use Rattle.std.specs.Prelude.{Ok, Err, MatchResult}
+use Rattle.std.specs.Result.{IsErrAnd}
+use Rattle.answer.specs.Result.{Step, Pass}
+use Rattle.answer.specs.declared.Refusal.{Refusal}
+use Rattle.answer.proofs.Laws.{passes, both_pass, test_held}
 use Rattle.text.specs.Class.{allowed}
 use Rattle.text.specs.declared.Set.TheVariants.{LettersDigits}
 use Rattle.text.proofs.Ranges.{is_true}
 use Rattle.checkdigit.specs.Fill.{check_digits, stamped}
 use Rattle.checkdigit.proofs.Fill.{tens_digit, ones_digit}
 use Rattle.sheet.specs.Sheets.{characters, remainder_by, held}
-use Rattle.sheet.specs.Load.{refusal, standing}
+use Rattle.sheet.specs.Load.{refusal, load_of, standing}
 use Rattle.sheet.specs.Sheets.{digits_place}
 use Rattle.repairs.specs.Repairs.{filled, asked, place_step, byte_step, text_step, unfit, given_steps, request_steps, sheet_step, repair_by, repair_of}
-use Rattle.repairs.specs.Inner.{filled_bytes, asked_bytes, first_steps, renewed_by}
+use Rattle.repairs.specs.Inner.{filled_bytes, asked_bytes}
 use Rattle.repairs.specs.declared.Request.{Request}
 use Rattle.repairs.specs.declared.Request.TheVariants.{Replace, Exchange, Fill}
 use Rattle.sheet.specs.declared.Sheet.{Sheet}
@@ -60,10 +61,16 @@ pub text_passes : (kind : ℕ) (t : List ℕ) → Fit kind t → text_step kind 
 unfolding text_step
 text_passes kind t f = rw f.passes
 
--- the code's step on the text, from what the character steps say
-pub text_step_is : (kind : ℕ) (t : List ℕ) (x : Step) → characters kind t ≡ x → unfit x ≡ text_step kind t
+-- the code's step on the text, from what the library has made of what the character steps say
+pub text_step_is : (kind : ℕ) (t : List ℕ) (x y : Step) → x ≡ characters kind t
+    → MatchResult x (λ u. y ≡ Ok u) (λ e. IsErrAnd y (λ f. Err f ≡ unfit (Err e))) → y ≡ text_step kind t
 unfolding text_step
-text_step_is kind t x e = ap unfit (sym e)
+text_step_is kind t x y e m = go x y m ∙ ap unfit e
+  where
+    go : (x y : Step) → MatchResult x (λ u. y ≡ Ok u) (λ e. IsErrAnd y (λ f. Err f ≡ unfit (Err e))) → y ≡ unfit x
+    go Pass y m = m
+    go (Err x) (Ok u) m = absurd m
+    go (Err x) (Err f) m = m
 
 pub digits_low : (kind : ℕ) → digits_place kind ≤ 18
 digits_low kind = go (eqb kind 1)
@@ -132,29 +139,35 @@ asked-front s Fill e =
     rw (take-stamped s.length s.text p 0)
     (take-stamped s.length s.text p (check_digits (remainder_by s.kind (stamped (held s) p 0))))
 
--- places are tested against the length that a sheet names: where it stands, this is its text's
+-- the code's steps; places are tested against the length that a sheet names: where it stands, this is its text's
 module _ (s : Sheet) (q : Request) where
-  pub repairs : first_steps s q ≡ Pass → (t : List ℕ) → t ≡ take s.length (asked_bytes s q) → renewed_by (text_step s.kind t) s t ≡ repair_of s q
-  unfolding request_steps renewed_by repair_by
-  repairs e t is =
-      let p = both_pass (sheet_step s) (given_steps s.length q) e in
-      let o = sheet-passed s p.0 in
-      let new : t ≡ asked s.kind (held s) q = is ∙ asked-front s q p.1 in
-      let given : given_steps (length (held s)) q ≡ Pass = rw (← stood_size s o) p.1 in
-      rw new (go (text_step s.kind (asked s.kind (held s) q)) refl o given ∙ sym (by_request s q o ∙ rw (passes (text_step s.kind (asked s.kind (held s) q)) given)))
-    where
-      go : (x : Step) → text_step s.kind (asked s.kind (held s) q) ≡ x → Stood s → given_steps (length (held s)) q ≡ Pass
-          → renewed_by x s (asked s.kind (held s) q) ≡ repair_by x s (asked s.kind (held s) q)
-      go Pass e o g =
-          load_fit s.kind (asked s.kind (held s) q) s
-          (record { known = o.fit.known; plain = asked_plain s.kind (held s) q o.fit g; passes = text-passed s.kind (asked s.kind (held s) q) e })
-      go (Err x) e o g = refl
+  pub sheet_stops : (e : Refusal) → sheet_step s ≡ Err e → refusal s e.reason e.check ≡ repair_of s q
+  unfolding repair_of repair_by ◌and_then◌
+  sheet_stops e f = rw f
 
-  pub repair_stops : (r : Reason) (k : ℕ) → first_steps s q ≡ Stop r k → refusal s r k ≡ repair_of s q
-  unfolding repair_of request_steps repair_by ◌and_then◌
-  repair_stops r k e = rw (go (sheet_step s) refl e)
-    where
-      go : (x : Step) → sheet_step s ≡ x → x and_then given_steps s.length q ≡ Stop r k
-          → x and_then (given_steps (length (held s)) q and_then text_step s.kind (asked s.kind (held s) q)) ≡ Stop r k
-      go Pass f g = stops {a = given_steps (length (held s)) q} r k (text_step s.kind (asked s.kind (held s) q)) (rw (← stood_size s (sheet-passed s f)) g)
-      go (Err e) f g = g
+  module _ (f : sheet_step s ≡ Pass) where
+    given_as : given_steps s.length q ≡ given_steps (length (held s)) q
+    given_as = ap (λ (n : ℕ). given_steps n q) (stood_size s (sheet-passed s f))
+
+    pub given_stops : (e : Refusal) → given_steps s.length q ≡ Err e → refusal s e.reason e.check ≡ repair_of s q
+    unfolding request_steps repair_by ◌and_then◌
+    given_stops e g = sym (by_request s q (sheet-passed s f) ∙ rw (← given_as, g))
+
+    module _ (g : given_steps s.length q ≡ Pass) (t : List ℕ) (is : t ≡ take s.length (asked_bytes s q)) where
+      new : t ≡ asked s.kind (held s) q
+      new = is ∙ asked-front s q g
+
+      by_text : repair_of s q ≡ repair_by (text_step s.kind t) s t
+      unfolding request_steps ◌and_then◌
+      by_text = by_request s q (sheet-passed s f) ∙ rw (← given_as, g, new)
+
+      pub text_stops : (e : Refusal) → text_step s.kind t ≡ Err e → refusal s e.reason e.check ≡ repair_of s q
+      unfolding repair_by
+      text_stops e h = sym (by_text ∙ rw h)
+
+      pub repairs : text_step s.kind t ≡ Pass → load_of s.kind t s ≡ repair_of s q
+      unfolding repair_by
+      repairs h =
+          let o = sheet-passed s f in
+          let plain : Plain t = rw new (asked_plain s.kind (held s) q o.fit (sym given_as ∙ g)) in
+          load_fit s.kind t s (record { known = o.fit.known; plain = plain; passes = text-passed s.kind t h }) ∙ sym (by_text ∙ rw h)

@@ -1,12 +1,11 @@
 -- Definitions that only inner functions of `repairs` cite: a reader of the promises can pass over them.
-use Rattle.std.specs.Prelude.{ℕ, List, take, set, Err}
-use Rattle.answer.specs.Steps.{◌and_then◌}
-use Rattle.answer.specs.Result.{Step, Pass, Stop}
+use Rattle.std.specs.Prelude.{ℕ, ◌≡◌, List, take, set, Result, MatchResult}
+use Rattle.answer.specs.declared.Refusal.{Refusal}
 use Rattle.checkdigit.specs.Sum.{exchanged}
 use Rattle.checkdigit.specs.Fill.{check_digits, stamped}
 use Rattle.sheet.specs.Sheets.{remainder_by, digits_place}
-use Rattle.sheet.specs.Load.{refusal, load_of}
-use Rattle.repairs.specs.Repairs.{given_steps, sheet_step}
+use Rattle.sheet.specs.Load.{refusal}
+use Rattle.repairs.specs.Repairs.{repair_of}
 use Rattle.repairs.specs.declared.Request.{Request}
 use Rattle.repairs.specs.declared.Request.TheVariants.{Replace, Exchange, Fill}
 use Rattle.sheet.specs.declared.Sheet.{Sheet}
@@ -23,11 +22,6 @@ asked_bytes s (Replace place byte) = set s.text place byte
 asked_bytes s (Exchange i j) = exchanged s.text i j
 asked_bytes s Fill = filled_bytes s
 
--- the refusals before the new text, with places tested against the length that the sheet names
-abbrev pub first_steps : Sheet → Request → Step
-first_steps s q = sheet_step s and_then given_steps s.length q
-
--- the repair to a new text, after the step on that text: a load of it
-unfoldable pub renewed_by : Step → Sheet → List ℕ → Repaired
-renewed_by Pass s t = load_of s.kind t s
-renewed_by (Err e) s t = refusal s e.reason e.check
+-- what a request finds of a sheet: the repair, or its first refusal
+abbrev pub Tried : Sheet → Request → Result Repaired Refusal → Type 0
+Tried s q r = MatchResult r (λ x. x ≡ repair_of s q) (λ e. refusal s e.reason e.check ≡ repair_of s q)

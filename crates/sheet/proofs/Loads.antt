@@ -10,9 +10,11 @@ use lib.ListN.{length, take, get_or}
 use lib.Seq.{take_all}
 use Rattle.answer.specs.Steps.{must, ◌and_then◌, ◌or_accept◌}
 use Rattle.answer.specs.Table.{row_of}
-use Rattle.std.specs.Prelude.{Err}
+use Rattle.std.specs.Prelude.{Result, Ok, Err, MatchResult}
+use Rattle.std.specs.Result.{IsOkAnd}
 use Rattle.answer.specs.Result.{Answer, Refused, Step, Pass, Stop}
 use Rattle.answer.specs.declared.Reason.{Reason}
+use Rattle.answer.specs.declared.Refusal.{Refusal}
 use Rattle.answer.specs.declared.Reason.TheVariants.{Length, Wrong, Remainder, UnknownKind}
 use Rattle.text.specs.Class.{allowed}
 use Rattle.text.specs.Field.{length_is, wrong_from, first_wrong}
@@ -20,12 +22,12 @@ use Rattle.text.specs.declared.Set.{Set}
 use Rattle.text.proofs.Ranges.{is_true}
 use Rattle.utf8.proofs.Ascii.{ascii_prefix}
 use Rattle.checkdigit.specs.RemainderStep.{remainder_step}
-use Rattle.iban.specs.Electronic.{Character, place_in}
+use Rattle.iban.specs.Electronic.{Character, place_in, electronic_text}
 use Rattle.iban.specs.Iban.{all_ascii, ascii_step, count_step, class_steps, reason_in, step_in, iban_characters, iban_answer}
 use Rattle.iban.specs.Format.{padded, format_by, format_of}
 use Rattle.iban.specs.declared.Electronic.{Electronic}
 use Rattle.iban.proofs.Padded.{padded-front}
-use Rattle.iban.proofs.Formats.{format_step}
+use Rattle.iban.specs.Inner.{step_of}
 use Rattle.lei.specs.Lei.{lei_characters, lei_answer}
 use Rattle.field.specs.Field.{known, admission, rule_of, answered, check_field}
 use Rattle.field.proofs.Admission.{admitted, admission_cases}
@@ -79,8 +81,8 @@ unfolding reason_in summed
 quiet_in l Pass q = quiet_pass
 quiet_in l (Err e) q = go (eqb (row_of e.reason).number 3)
   where
-    go : (b : Bool) → Quiet (Stop (cond b (Wrong (place_in (row_of r).place l)) r) k)
-    go true = quiet_at (Wrong (place_in (row_of r).place l)) k refl
+    go : (b : Bool) → Quiet (Stop (cond b (Wrong (place_in (row_of e.reason).place l)) e.reason) e.check)
+    go true = quiet_at (Wrong (place_in (row_of e.reason).place l)) e.check refl
     go false = q
 
 ruleset quiets = (quiet_must, quiet_then, quiet_first, quiet_length, quiet_ascii, quiet_in)
@@ -171,22 +173,38 @@ pub with_is : (kind : ℕ) (t : List ℕ) → length t ≤ 34 → sheet_with kin
 unfolding sheet_of
 with_is kind t h = rw (padded-front 34 t h)
 
--- an IBAN's, from its electronic format, and an LEI's, from the field
-pub iban_characters_lem : (kind : ℕ) (s : List ℕ) (e : Electronic) → kind ≡ 1 → e ≡ format_of s → e.step ≡ characters kind s
+-- what the electronic format says as a step is what its steps say
+format_step : (x : Step) (t : List ℕ) → step_of (format_by x t) ≡ x
+unfolding format_by
+format_step Pass t = refl
+format_step (Err e) t = refl
+
+-- an IBAN's, from what the code makes of its electronic format
+mapped : (r : Result Electronic Refusal) (q : Step) (P : Electronic → Unit → Type 0) → MatchResult r (λ e. IsOkAnd q (P e)) (λ x. q ≡ Err x) → q ≡ step_of r
+mapped (Ok e) (Ok u) P h = refl
+mapped (Ok e) (Err x) P h = absurd h
+mapped (Err x) q P h = h
+
+pub format_characters : (s : List ℕ) (r : Result Electronic Refusal) (q : Step) (P : Electronic → Unit → Type 0)
+    → r ≡ format_of s → MatchResult r (λ e. IsOkAnd q (P e)) (λ x. q ≡ Err x) → q ≡ iban_characters s
+unfolding format_of
+format_characters s r q P o h = mapped r q P h ∙ rw o (format_step (iban_characters s) _)
+
+pub iban_refused : (kind : ℕ) (s : List ℕ) (r : Result Electronic Refusal) (x : Refusal) → kind ≡ 1 → r ≡ format_of s → r ≡ Err x → characters kind s ≡ Pass → ⊥
 unfolding characters format_of
-iban_characters_lem kind s e q o = rw (o, eq-eqb kind 1 q) (format_step (iban_characters s) _)
+iban_refused kind s r x q o f p =
+    let one : iban_characters s ≡ Pass = rw (eq-eqb kind 1 q) at p in
+    let e : Err x ≡ Pass = ap step_of (sym f ∙ o) ∙ format_step (iban_characters s) (electronic_text s) ∙ one in
+    let z : ◌≡◌ {A = ℕ} 0 1 = cc in omega arith
 
-pub lei_characters_lem : (kind : ℕ) (s : List ℕ) → (kind ≡ 1 → ⊥) → lei_characters s ≡ characters kind s
-unfolding characters
-lei_characters_lem kind s n = rw (ne_eqb kind 1 n)
-
-pub iban_sheet : (kind : ℕ) (s : List ℕ) (e : Electronic) → kind ≡ 1 → e ≡ format_of s → characters kind s ≡ Pass
+pub iban_sheet : (kind : ℕ) (s : List ℕ) (r : Result Electronic Refusal) (e : Electronic) → kind ≡ 1 → r ≡ format_of s → r ≡ Ok e → characters kind s ≡ Pass
     → sheet_with kind e.count e.text ≡ sheet_of kind (held_text kind s)
 unfolding characters held_text format_of format_by
-iban_sheet kind s e q o p =
+iban_sheet kind s r e q o f p =
     let one : iban_characters s ≡ Pass = rw (eq-eqb kind 1 q) at p in
-    let fit = held_fit 1 s tt one in
-    rw (o, one, eq-eqb kind 1 q) (with_is kind (held_text 1 s) (fit_few 1 (held_text 1 s) fit).1)
+    let whole : Ok e ≡ format_by Pass (electronic_text s) = sym f ∙ o ∙ ap (λ (x : Step). format_by x (electronic_text s)) one in
+    let parts : e ≡ record { count = length (electronic_text s); text = padded 34 (electronic_text s) } = cc in
+    rw (parts, eq-eqb kind 1 q) (with_is kind (held_text 1 s) (fit_few 1 (held_text 1 s) (held_fit 1 s tt one)).1)
 
 pub lei_sheet : (kind : ℕ) (s : List ℕ) → (kind ≡ 1 → ⊥) → characters kind s ≡ Pass
     → sheet_with kind (length s) (padded 34 (take 34 s)) ≡ sheet_of kind (held_text kind s)

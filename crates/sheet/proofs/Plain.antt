@@ -14,7 +14,8 @@ use Rattle.text.specs.Class.{allowed}
 use Rattle.text.specs.declared.Set.TheVariants.{LettersDigits}
 use Rattle.text.proofs.Classes.{allowed-ends}
 use Rattle.text.proofs.Ranges.{evenly}
-use Rattle.utf8.specs.Chars.{ch, ascii}
+use Rattle.utf8.specs.Rfc3629.{ch}
+use Rattle.utf8.specs.Chars.{ascii}
 use Rattle.utf8.specs.Space.{spaces, white_space}
 use Rattle.utf8.proofs.Ascii.{below_ascii, ascii-chars, ascii_prefix}
 use Rattle.iban.specs.Electronic.{Character, electronic_from, electronic, text_of, electronic_text}

@@ -1,12 +1,14 @@
 -- Sheets: equal in all four parts means equal, the 34 bytes of a held text, and a sheet stands exactly where it holds a text that fits.
-use Prim.Native.Nat.{ℕ, zero, suc, ◌≤◌}
+use Prim.Native.Nat.{ℕ, zero, suc, min, ◌≤◌}
 use mathlib.Core.Path.{◌≡◌, refl, sym, ◌∙◌, ap}
-use mathlib.Core.Bool.{Bool, true, false, ◌&&◌, cond}
+use mathlib.Core.Bool.{Bool, true, false, ◌&&◌, cond, not}
 use mathlib.Core.List.{List, [], ◌∷◌, ◌++◌}
 use native.Mathlib.Omega.{arith}
 use borrow.Author.Tests.{eqb-true, eq-eqb, ne_eqb}
 use lib.Dec.{T, eqb}
 use lib.ListN.{length, take, drop, length-take}
+use lib.Pointwise.{pointwise}
+use Rattle.std.proofs.lemmas.List.{take_min}
 use Rattle.text.specs.Same.{same_text}
 use Rattle.text.proofs.Ranges.{within-ends}
 use Rattle.text.proofs.Same.{same_text_lem, text_same}
@@ -44,6 +46,24 @@ pub sheet-same : (a : Sheet) → same_sheet a a ≡ true
 unfolding same_sheet
 sheet-same a = rw (eq-eqb a.kind a.kind refl, eq-eqb a.length a.length refl, eq-eqb a.remainder a.remainder refl) (text_same a.text)
 
+-- the library's `==` compares the same four parts
+pointwise-same : (t u : List ℕ) → pointwise eqb t u ≡ same_text t u
+unfolding same_text
+pointwise-same [] [] = refl
+pointwise-same [] (b ∷ u) = refl
+pointwise-same (a ∷ t) [] = refl
+pointwise-same (a ∷ t) (b ∷ u) = ap (λ (x : Bool). eqb a b && x) (pointwise-same t u)
+
+abbrev pub derived : Sheet → Sheet → Bool
+derived a b = eqb a.kind b.kind && (eqb a.length b.length && (eqb a.remainder b.remainder && pointwise eqb a.text b.text))
+
+derived-same : (a b : Sheet) → derived a b ≡ same_sheet a b
+unfolding same_sheet
+derived-same a b = rw (pointwise-same a.text b.text)
+
+pub same_to : (a b x : Sheet) (r : Bool) → r ≡ derived a b → a ≡ x → r ≡ same_sheet x b
+same_to a b x r e f = e ∙ derived-same a b ∙ ap (λ (u : Sheet). same_sheet u b) f
+
 -- a text copied over zeros
 padded-past : (n : ℕ) (t : List ℕ) → length t ≤ n → padded n t ≡ t ++ drop (length t) (padded n [])
 unfolding padded
@@ -52,10 +72,13 @@ padded-past zero (b ∷ t) h = absurd (omega arith)
 padded-past (suc n) [] h = refl
 padded-past (suc n) (b ∷ t) h = ap (λ (l : List ℕ). b ∷ l) (padded-past n t (omega arith))
 
-pub copied_text : (t u zeros out : List ℕ) → zeros ≡ padded 34 [] → u ≡ take 34 t → out ≡ u → out ++ drop (length u) zeros ≡ padded 34 (take 34 t)
-copied_text t u zeros out z f e =
-    let few : length u ≤ 34 = omega (arith, ap length f, length-take 34 t) in
-    rw (e, z) (sym (padded-past 34 u few)) ∙ ap (padded 34) f
+pub copied_text : (t zeros out : List ℕ) (n : ℕ) → zeros ≡ padded 34 [] → n ≡ min (length t) 34 → out ≡ take n t → out ++ drop n zeros ≡ padded 34 (take 34 t)
+copied_text t zeros out n z f e =
+    let few : length (take 34 t) ≤ 34 = omega (arith, length-take 34 t) in
+    let size : n ≡ length (take 34 t) = omega (arith, f, length-take 34 t) in
+    let least : n ≡ min 34 (length t) = omega (arith, f) in
+    let front : out ≡ take 34 t = e ∙ ap (λ (k : ℕ). take k t) least ∙ take_min 34 t in
+    rw (front, z, size) (sym (padded-past 34 (take 34 t) few))
 
 pub held_of : (kind : ℕ) (t : List ℕ) → length t ≤ 34 → held (sheet_of kind t) ≡ t
 unfolding sheet_of
@@ -130,3 +153,10 @@ empty_falls s e = rw e
 pub by_own : (s : Sheet) → same_sheet s empty_sheet ≡ false → standing s ≡ same_sheet (load_of s.kind (held s) empty_sheet).sheet s
 unfolding standing
 by_own s e = rw e
+
+pub differs : (s e : Sheet) (ne : Bool) → e ≡ empty_sheet → ne ≡ not (derived s e) → same_sheet s empty_sheet ≡ not ne
+differs s e ne z n = rw (n, z, derived-same s empty_sheet) (go (same_sheet s empty_sheet))
+  where
+    go : (b : Bool) → b ≡ not (not b)
+    go true = refl
+    go false = refl

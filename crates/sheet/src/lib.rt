@@ -1,19 +1,18 @@
 // The sheet: an IBAN or an LEI held by value between repairs, and its load.
 #![tactic(auto)]
 
-ghost use Rattle.std.specs.Prelude.{◌≡◌, take};
-ghost use Rattle.answer.specs.Result.{Step};
-ghost use Rattle.answer.specs.declared.Reason.{Reason};
-ghost use Rattle.text.specs.Same.{same_text};
+ghost use Rattle.std.specs.Prelude.{◌≡◌, take, Ok};
+ghost use Rattle.answer.specs.Result.{Pass};
 ghost use Rattle.iban.specs.Format.{padded};
-ghost use Rattle.sheet.specs.Sheets.{sheet_kind, held_text, characters, remainder_by, sheet_of, empty_sheet, same_sheet};
+ghost use Rattle.sheet.specs.Sheets.{sheet_kind, held_text, characters, remainder_by, sheet_of, empty_sheet, held};
 ghost use Rattle.sheet.specs.Load.{refusal, summed, load_of, standing};
 ghost use Rattle.sheet.specs.Inner.{sheet_with};
 
-use answer::{Answer, Reason, Step};
+use answer::{Answer, Reason, Refusal, Step};
 
-// The text stands in the first `length` bytes, and those past it are zero.
-#[derive(Clone, Copy)]
+// The text stands in the first `length` bytes, and those past it are zero. A caller's bytes come in as they are, through C too: any kind, any
+// length and any text, so that the kind is a number and the text has its length beside it; only `stands` tells whether they go together.
+#[derive(Clone, Copy, PartialEq, Eq)]
 pub struct Sheet {
     pub kind: u16,
     pub length: usize,
@@ -21,6 +20,23 @@ pub struct Sheet {
     pub text: [u8; 34],
 }
 
+impl Sheet {
+    // The text that a sheet says it holds: all 34 bytes where its length is above that.
+    pub fn held(&self) -> &[u8]
+        ensures { result.now ≡ held self.now }
+    {
+        self.text.get(..self.length).unwrap_or(&self.text)
+    }
+
+    // A sheet stands where it is not empty, and is the one that loading its own text gives.
+    pub fn stands(self) -> bool
+        ensures { result ≡ standing self }
+    {
+        self != empty() && load(self.kind, self.held(), empty()).sheet == self
+    }
+}
+
+// What a call answers, and the sheet after it, which is there whatever the answer.
 #[derive(Clone, Copy)]
 pub struct Repaired {
     pub answer: Answer,
@@ -40,53 +56,40 @@ pub fn empty() -> Sheet
 }
 
 // A refused call returns the sheet that went in.
-pub fn refused(old: Sheet, reason: Reason, check: u32) -> Repaired
-    ensures { result ≡ refusal old reason check }
+pub fn refused(old: Sheet, why: Refusal) -> Repaired
+    ensures { result ≡ refusal old why.reason why.check }
 {
     Repaired {
-        answer: Answer::Refused(reason, check),
+        answer: Err(why),
         sheet: old,
     }
-}
-
-// The first n bytes, and all of them where there are fewer.
-pub fn front(t: &[u8], n: usize) -> &[u8]
-    ensures { result.now ≡ take n t.now }
-{
-    if n <= t.len() {
-        return &t[0..n];
-    }
-    t
 }
 
 fn is_sheet_kind(kind: u16) -> bool
     ensures { result ≡ sheet_kind kind }
 {
-    if kind < 1 {
-        return false;
-    }
-    kind <= 2
+    (1..=2).contains(&kind)
 }
 
 // Every step of the kind's rule but the remainder.
+#[tactic(auto, unfolding(crate::specs::Sheets::characters))]
 pub fn characters(kind: u16, t: &[u8]) -> Step
     ensures { result ≡ characters kind t.now }
 {
-    if kind == 1 {
-        let e = iban::electronic_format(t);
-        return e.step;
+    match kind {
+        1 => iban::electronic_format(t).map(|_| ()),
+        _ => lei::characters(t),
     }
-    lei::characters(t)
 }
 
 #[tactic(auto, unfolding(crate::specs::Sheets::remainder_by))]
 pub fn remainder(kind: u16, t: &[u8]) -> u64
     ensures { result ≡ remainder_by kind t.now }
 {
-    if kind == 1 {
-        return checkdigit::iban_remainder(t);
+    match kind {
+        1 => checkdigit::iban_remainder(t),
+        _ => checkdigit::remainder(t),
     }
-    checkdigit::remainder(t)
 }
 
 // The first 34 bytes of a text, and zeros past its last.
@@ -94,8 +97,8 @@ fn copied(t: &[u8]) -> [u8; 34]
     ensures { result ≡ padded 34 (take 34 t.now) }
 {
     let mut text = iban::zeros();
-    let first = front(t, 34);
-    text[..first.len()].copy_from_slice(first);
+    let n = t.len().min(34);
+    text[..n].copy_from_slice(&t[..n]);
     text
 }
 
@@ -103,24 +106,27 @@ fn copied(t: &[u8]) -> [u8; 34]
 fn sheet_with(kind: u16, length: usize, text: [u8; 34]) -> Sheet
     ensures { result ≡ sheet_with kind length text }
 {
-    Sheet {
+    let sheet = Sheet {
         kind,
         length,
-        remainder: remainder(kind, front(&text, length)),
+        remainder: 0,
         text,
+    };
+    Sheet {
+        remainder: remainder(kind, sheet.held()),
+        ..sheet
     }
 }
 
 // The sheet that holds a field, where the field passes every step but the remainder.
-fn sheet_of(kind: u16, field: &[u8]) -> Sheet
-    ensures { characters kind field.now ≡ Step.Pass → result ≡ sheet_of kind (held_text kind field.now) }
+fn sheet_of(kind: u16, field: &[u8]) -> Result<Sheet, Refusal>
+    ensures { characters kind field.now ≡ Pass → result ≡ Ok (sheet_of kind (held_text kind field.now)) }
 {
     if kind == 1 {
-        let e = iban::electronic_format(field);
-        let text = e.text;
-        return sheet_with(kind, e.count, text);
+        let e = iban::electronic_format(field)?;
+        return Ok(sheet_with(kind, e.count, e.text));
     }
-    sheet_with(kind, field.len(), copied(field))
+    Ok(sheet_with(kind, field.len(), copied(field)))
 }
 
 // The answer is 0 or 5: every step but the remainder passed.
@@ -128,69 +134,30 @@ fn sheet_of(kind: u16, field: &[u8]) -> Sheet
 fn is_summed(answer: Answer) -> bool
     ensures { result ≡ summed answer }
 {
-    let number = answer.number();
-    if number == 0 {
-        return true;
-    }
-    number == 5
+    matches!(
+        answer,
+        Ok(_)
+            | Err(Refusal {
+                reason: Reason::Remainder { .. },
+                ..
+            })
+    )
 }
 
 pub fn load(kind: u16, field: &[u8], old: Sheet) -> Repaired
     ensures { result ≡ load_of kind field.now old }
 {
-    if is_sheet_kind(kind) {
-        let answer = field::check_field(kind, field);
-        if is_summed(answer) {
-            return Repaired {
-                answer,
-                sheet: sheet_of(kind, field),
-            };
-        }
-        return Repaired { answer, sheet: old };
+    if !is_sheet_kind(kind) {
+        let reason = Reason::UnknownKind {
+            kind: u64::from(kind),
+        };
+        return refused(old, Refusal { reason, check: 24 });
     }
-    refused(old, Reason::UnknownKind { kind: kind as u64 }, 24)
-}
-
-fn same_text(a: [u8; 34], b: [u8; 34]) -> bool
-    ensures { result ≡ same_text a b }
-{
-    let mut i = 0;
-    while i < 34 {
-        if a[i] != b[i] {
-            return false;
-        }
-        i += 1;
-    }
-    true
-}
-
-#[tactic(auto, unfolding(crate::specs::Sheets::same_sheet))]
-fn same(a: Sheet, b: Sheet) -> bool
-    ensures { result ≡ same_sheet a b }
-{
-    if a.kind != b.kind {
-        return false;
-    }
-    if a.length != b.length {
-        return false;
-    }
-    if a.remainder != b.remainder {
-        return false;
-    }
-    let t = a.text;
-    let u = b.text;
-    same_text(t, u)
-}
-
-// A sheet stands where it is not empty, and is the one that loading its own text gives.
-pub fn stands(sheet: Sheet) -> bool
-    ensures { result ≡ standing sheet }
-{
-    if same(sheet, empty()) {
-        return false;
-    }
-    let text = sheet.text;
-    let own = load(sheet.kind, front(&text, sheet.length), empty());
-    let loaded = own.sheet;
-    same(loaded, sheet)
+    let answer = field::check_field(kind, field);
+    let sheet = if is_summed(answer) {
+        sheet_of(kind, field).unwrap_or(old)
+    } else {
+        old
+    };
+    Repaired { answer, sheet }
 }

@@ -11,7 +11,7 @@ use lib.ListN.{length, set, get_or}
 use Rattle.answer.specs.Steps.{must, ◌and_then◌, ◌or_accept◌}
 use Rattle.answer.specs.Table.{number_of, value_of, row_of}
 use Rattle.std.specs.Prelude.{Err}
-use Rattle.answer.specs.Result.{Accepted, Step, Pass, Stop}
+use Rattle.answer.specs.Result.{Accepted, Step, Pass}
 use Rattle.answer.specs.declared.Reason.{Reason}
 use Rattle.answer.specs.declared.Reason.TheVariants.{NoPlace, Unfit, Remainder}
 use Rattle.answer.proofs.Laws.{accepted_pass, test_held}
@@ -90,7 +90,7 @@ told_fit kind t q f (Err x) e = f
 -- .. and none of them answers 20
 Other : Step → Type 0
 Other Pass = Unit {0}
-Other (Stop r k) = (row_of r).number ≢ 20
+Other (Err e) = (row_of e.reason).number ≢ 20
 
 other-then : (a b : Step) → Other a → Other b → Other (a and_then b)
 unfolding Other ◌and_then◌

@@ -1,6 +1,6 @@
 -- SCOPE, "The repair sheet", read over a whole list of calls: on the sheet, and on nothing but the text that it holds.
 use Rattle.std.specs.Prelude.{ℕ, ◌+◌, List, [], ◌∷◌, ◌≢◌, Err}
-use Rattle.answer.specs.Result.{Answer, Refused, Step, Pass, Stop}
+use Rattle.answer.specs.Result.{Answer, Refused, Step, Pass}
 use Rattle.field.specs.Field.{check_field}
 use Rattle.sheet.specs.Sheets.{sheet_of}
 use Rattle.repairs.specs.declared.Request.{Request}

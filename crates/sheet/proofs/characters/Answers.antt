@@ -1,10 +1,8 @@
--- `sheet::characters` meets its contract: one test on the kind.
-use mathlib.Core.Path.{◌∙◌}
-use Rattle.sheet.proofs.Loads.{iban_characters_lem, lei_characters_lem}
+-- `sheet::characters` meets its contract: an IBAN's, from its electronic format.
+use Rattle.sheet.specs.Sheets.{characters}
+use Rattle.sheet.proofs.Loads.{format_characters}
 use Rattle.sheet.proofs.characters.Goals as goal
 
-pub returns-then-kind-eq1 : goal.returns-then-kind-eq1
-returns-then-kind-eq1 c = iban_characters_lem _ _ _ c.if-kind-eq1.true c.electronic_format-e.ensures
-
-pub returns : goal.returns
-returns c = c.characters.ensures ∙ lei_characters_lem _ _ c.if-kind-eq1.false
+pub returns-in-1 : goal.returns-in-1
+unfolding characters
+returns-in-1 c = rw c.in-1.is (format_characters _ _ _ _ c.electronic_format.ensures c.map.ensures.cases)
