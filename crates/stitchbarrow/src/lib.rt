@@ -31,6 +31,7 @@ const ANSWER_SIZE: usize = 12;
 const SHEET_SIZE: usize = 46;
 
 // An answer, written to the first 12 bytes of `answer`.
+#[tactic(auto, unfolding(crate::specs::Reply::answer_reply))]
 fn tell(a: Answer, answer: &mut [u8]) -> u8
     requires { answer_size ≤ length answer.old }
     ensures { record { code = result; bytes = answer.new } ≡ answer_reply a answer.old }
