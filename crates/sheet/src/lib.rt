@@ -93,6 +93,7 @@ pub fn remainder(kind: u16, t: &[u8]) -> u64
 }
 
 // The first 34 bytes of a text, and zeros past its last.
+#[tactic(auto, using(crate::proofs::Sheets::copied_text))]
 fn copied(t: &[u8]) -> [u8; 34]
     ensures { result ≡ padded 34 (take 34 t.now) }
 {
@@ -119,6 +120,7 @@ fn sheet_with(kind: u16, length: usize, text: [u8; 34]) -> Sheet
 }
 
 // The sheet that holds a field, where the field passes every step but the remainder.
+#[tactic(auto, using(crate::proofs::Loads::iban_refused, crate::proofs::Loads::iban_sheet, crate::proofs::Loads::lei_sheet))]
 fn sheet_of(kind: u16, field: &[u8]) -> Result<Sheet, Refusal>
     ensures { characters kind field.now ≡ Pass → result ≡ Ok (sheet_of kind (held_text kind field.now)) }
 {
@@ -144,6 +146,7 @@ fn is_summed(answer: Answer) -> bool
     )
 }
 
+#[tactic(auto, using(crate::proofs::Loads::load_other, crate::proofs::Loads::load_kept))]
 pub fn load(kind: u16, field: &[u8], old: Sheet) -> Repaired
     ensures { result ≡ load_of kind field.now old }
 {
