@@ -124,11 +124,13 @@ fn sheet_with(kind: u16, length: usize, text: [u8; 34]) -> Sheet
 fn sheet_of(kind: u16, field: &[u8]) -> Result<Sheet, Refusal>
     ensures { characters kind field.now ≡ Pass → result ≡ Ok (sheet_of kind (held_text kind field.now)) }
 {
-    if kind == 1 {
-        let e = iban::electronic_format(field)?;
-        return Ok(sheet_with(kind, e.count, e.text));
+    match kind {
+        1 => {
+            let e = iban::electronic_format(field)?;
+            Ok(sheet_with(kind, e.count, e.text))
+        }
+        _ => Ok(sheet_with(kind, field.len(), copied(field))),
     }
-    Ok(sheet_with(kind, field.len(), copied(field)))
 }
 
 // The answer is 0 or 5: every step but the remainder passed.
