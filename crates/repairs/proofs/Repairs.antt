@@ -23,14 +23,14 @@ use Rattle.sheet.specs.Sheets.{characters, remainder_by, held}
 use Rattle.sheet.specs.Load.{refusal, load_of, standing}
 use Rattle.sheet.specs.Sheets.{digits_place}
 use Rattle.repairs.specs.Repairs.{filled, asked, place_step, byte_step, text_step, unfit, given_steps, request_steps, sheet_step, repair_by, repair_of}
-use Rattle.repairs.specs.Inner.{filled_bytes, asked_bytes}
+use Rattle.repairs.specs.Inner.{filled_bytes, asked_bytes, Inside}
 use Rattle.repairs.specs.declared.Request.{Request}
 use Rattle.repairs.specs.declared.Request.TheVariants.{Replace, Exchange, Fill}
 use Rattle.sheet.specs.declared.Sheet.{Sheet}
 use Rattle.sheet.proofs.Plain.{Plain, plain_set}
 use Rattle.sheet.proofs.Fits.{Fit, fit_digit}
 use Rattle.sheet.proofs.Loads.{load_fit}
-use Rattle.sheet.proofs.Sheets.{Stood, stood, stands, stood_size}
+use Rattle.sheet.proofs.Sheets.{Stood, stood, stands, stood_size, stood_few}
 
 -- what each step has shown where it passed
 pub sheet-passed : (s : Sheet) → sheet_step s ≡ Pass → Stood s
@@ -89,6 +89,22 @@ fit_stamped kind t d h f =
 pub fit_filled : (kind : ℕ) (t : List ℕ) → Fit kind t → Fit kind (filled kind t)
 unfolding filled
 fit_filled kind t f = fit_stamped kind t (check_digits (remainder_by kind (stamped t (digits_place kind) 0))) (omega arith) f
+
+-- where the sheet stands and the places pass, they are inside the 34 bytes
+pub inside : (s : Sheet) (q : Request) → sheet_step s ≡ Pass → given_steps s.length q ≡ Pass → Inside 34 q
+unfolding given_steps
+inside s q e g = go q g (stood_few s (sheet-passed s e)).1
+  where
+    go : (q : Request) → given_steps s.length q ≡ Pass → s.length ≤ 34 → Inside 34 q
+    go (Replace p b) g h =
+        let l = place-passed s.length p (both_pass (place_step s.length p) (byte_step p b) g).0 in
+        omega arith
+    go (Exchange i j) g h =
+        let p = both_pass (place_step s.length i) (place_step s.length j) g in
+        let k = place-passed s.length i p.0 in
+        let l = place-passed s.length j p.1 in
+        (omega arith, omega arith)
+    go Fill g h = tt
 
 -- a request whose places and byte are in order leaves letters and digits
 asked_plain : (kind : ℕ) (t : List ℕ) (q : Request) → Fit kind t → given_steps (length t) q ≡ Pass → Plain (asked kind t q)

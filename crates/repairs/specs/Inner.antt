@@ -1,5 +1,5 @@
 -- Definitions that only inner functions of `repairs` cite: a reader of the promises can pass over them.
-use Rattle.std.specs.Prelude.{ℕ, ◌≡◌, List, take, set, Result, MatchResult}
+use Rattle.std.specs.Prelude.{ℕ, ◌<◌, ◌≡◌, ⊤, List, take, set, Result, MatchResult}
 use Rattle.answer.specs.declared.Refusal.{Refusal}
 use Rattle.checkdigit.specs.Sum.{exchanged}
 use Rattle.checkdigit.specs.Fill.{check_digits, stamped}
@@ -21,6 +21,12 @@ unfoldable pub asked_bytes : Sheet → Request → List ℕ
 asked_bytes s (Replace place byte) = set s.text place byte
 asked_bytes s (Exchange i j) = exchanged s.text i j
 asked_bytes s Fill = filled_bytes s
+
+-- each place that a request gives is below n
+abbrev pub Inside : ℕ → Request → Type 0
+Inside n (Replace place byte) = place < n
+Inside n (Exchange i j) = (i < n) × (j < n)
+Inside n Fill = ⊤
 
 -- what a request finds of a sheet: the repair, or its first refusal
 abbrev pub Tried : Sheet → Request → Result Repaired Refusal → Type 0

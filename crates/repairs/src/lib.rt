@@ -1,12 +1,11 @@
 // Repairs of a sheet: a byte replaced, two characters exchanged, the check digits filled in.
 #![tactic(auto)]
 
-ghost use Rattle.std.specs.Prelude.{◌≡◌, set, Err};
-ghost use Rattle.checkdigit.specs.Sum.{exchanged};
+ghost use Rattle.std.specs.Prelude.{◌≡◌, ◌≤◌, Err};
 ghost use Rattle.checkdigit.specs.Fill.{stamped};
 ghost use Rattle.sheet.specs.Sheets.{digits_place};
 ghost use Rattle.repairs.specs.Repairs.{place_step, byte_step, unfit, text_step, given_steps, sheet_step, repair_of};
-ghost use Rattle.repairs.specs.Inner.{filled_bytes, asked_bytes, Tried};
+ghost use Rattle.repairs.specs.Inner.{filled_bytes, asked_bytes, Inside, Tried};
 
 use answer::{Numbers, Reason, Refusal, Step, must};
 use sheet::{Repaired, Sheet};
@@ -61,26 +60,9 @@ fn text_step(kind: u16, t: &[u8]) -> Step
     sheet::characters(kind, t).map_err(unfit)
 }
 
-// The byte at a place; past the 34 bytes nothing changes.
-fn put(mut text: [u8; 34], place: usize, byte: u8) -> [u8; 34]
-    ensures { result ≡ set text place byte }
-{
-    if place < text.len() {
-        text[place] = byte;
-    }
-    text
-}
-
-fn swap(text: [u8; 34], i: usize, j: usize) -> [u8; 34]
-    ensures { result ≡ exchanged text i j }
-{
-    let a = text::at(&text, i);
-    let b = text::at(&text, j);
-    put(put(text, i, b), j, a)
-}
-
 fn digits_place(kind: u16) -> usize
-    ensures { result ≡ digits_place kind }
+    ensures value { result ≡ digits_place kind }
+    ensures low { result ≤ 18 }
 {
     match kind {
         1 => 2,
@@ -93,7 +75,10 @@ fn stamp(sheet: Sheet, d: u8) -> [u8; 34]
     ensures { result ≡ stamped sheet.text (digits_place sheet.kind) d }
 {
     let place = digits_place(sheet.kind);
-    put(put(sheet.text, place, 48 + d / 10), place + 1, 48 + d % 10)
+    let mut text = sheet.text;
+    text[place] = 48 + d / 10;
+    text[place + 1] = 48 + d % 10;
+    text
 }
 
 #[tactic(auto, unfolding(crate::specs::Inner::filled_bytes))]
@@ -130,13 +115,16 @@ impl Request {
     // A sheet's 34 bytes with the repair made as asked.
     #[tactic(auto, unfolding(crate::specs::Inner::asked_bytes))]
     fn asked(self, sheet: Sheet) -> [u8; 34]
+        requires { Inside 34 self }
         ensures { result ≡ asked_bytes sheet self }
     {
+        let mut text = sheet.text;
         match self {
-            Request::Replace { place, byte } => put(sheet.text, place, byte),
-            Request::Exchange { i, j } => swap(sheet.text, i, j),
-            Request::Fill => filled(sheet),
+            Request::Replace { place, byte } => text[place] = byte,
+            Request::Exchange { i, j } => text.swap(i, j),
+            Request::Fill => text = filled(sheet),
         }
+        text
     }
 
     // The repair, or its first refusal: 20, then those of what the request gives, then that of the new text.

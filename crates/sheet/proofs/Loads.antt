@@ -11,7 +11,7 @@ use lib.Seq.{take_all}
 use Rattle.answer.specs.Steps.{must, ◌and_then◌, ◌or_accept◌}
 use Rattle.answer.specs.Table.{row_of}
 use Rattle.std.specs.Prelude.{Result, Ok, Err, MatchResult}
-use Rattle.std.specs.Result.{IsOkAnd}
+use Rattle.std.specs.Result.{IsOkAnd, result_unwrap_or}
 use Rattle.answer.specs.Result.{Answer, Refused, Step, Pass, Stop}
 use Rattle.answer.specs.declared.Reason.{Reason}
 use Rattle.answer.specs.declared.Refusal.{Refusal}
@@ -233,11 +233,12 @@ module _ (kind : ℕ) (s : List ℕ) (old : Sheet) where
   load_taken e f = rw (e, f)
 
   -- the code's cases
-  pub load_written : (a : Answer) (new : Sheet) → sheet_kind kind ≡ true → a ≡ check_field kind s → summed a ≡ true
-      → (characters kind s ≡ Pass → new ≡ sheet_of kind (held_text kind s)) → record { answer = a; sheet = new } ≡ load_of kind s old
-  load_written a new known e f g =
+  pub load_written : (a : Answer) (new : Sheet) (r : Result Sheet Refusal) → sheet_kind kind ≡ true → a ≡ check_field kind s → summed a ≡ true
+      → (characters kind s ≡ Pass → r ≡ Ok (sheet_of kind (held_text kind s))) → new ≡ result_unwrap_or r old → record { answer = a; sheet = new } ≡ load_of kind s old
+  load_written a new r known e f g n =
       let taken : summed (check_field kind s) ≡ true = rw (← e) f in
-      rw (e, g (summed_passes kind s (rw known tt) taken).1) (sym (load_taken known taken))
+      let is = g (summed_passes kind s (rw known tt) taken).1 in
+      rw (e, n, is) (sym (load_taken known taken))
 
   pub load_kept : (a : Answer) → sheet_kind kind ≡ true → a ≡ check_field kind s → summed a ≡ false → record { answer = a; sheet = old } ≡ load_of kind s old
   load_kept a known e f = rw e (sym (load_refused known (rw (← e) f)))

@@ -4,13 +4,13 @@ use mathlib.Core.Path.{◌≡◌, refl, sym, ◌∙◌, ap}
 use mathlib.Core.Bool.{Bool, true, false, ◌&&◌, cond, not}
 use mathlib.Core.List.{List, [], ◌∷◌, ◌++◌}
 use native.Mathlib.Omega.{arith}
-use borrow.Author.Tests.{eqb-true, eq-eqb, ne_eqb}
-use lib.Dec.{T, eqb}
+use borrow.Author.Tests.{eq-eqb, ne_eqb}
+use lib.Dec.{T, eqb, eqb→eq}
 use lib.ListN.{length, take, drop, length-take}
 use lib.Pointwise.{pointwise}
 use Rattle.std.proofs.lemmas.List.{take_min}
 use Rattle.text.specs.Same.{same_text}
-use Rattle.text.proofs.Ranges.{within-ends}
+use Rattle.text.proofs.Ranges.{within-ends, is_true, both_parts}
 use Rattle.text.proofs.Same.{same_text_lem, text_same}
 use Rattle.iban.specs.Format.{padded}
 use Rattle.iban.proofs.Padded.{padded-front}
@@ -22,21 +22,15 @@ use Rattle.sheet.specs.declared.Repaired.{Repaired}
 use Rattle.sheet.proofs.Fits.{Fit, fit_few}
 use Rattle.sheet.proofs.Loads.{load_other, load_refused, load_taken, taken_fit, load_fit}
 
-both_true : (a b : Bool) → (a && b) ≡ true → (a ≡ true) × (b ≡ true)
-both_true true b e = (refl, e)
-both_true false b e = let z : ◌≡◌ {A = ℕ} 0 1 = cc in absurd (omega arith)
-
 pub same-sheet : (a b : Sheet) → same_sheet a b ≡ true → a ≡ b
 unfolding same_sheet
 same-sheet a b e =
-    let p = both_true (eqb a.kind b.kind) (eqb a.length b.length && (eqb a.remainder b.remainder && same_text a.text b.text)) e in
-    let q = both_true (eqb a.length b.length) (eqb a.remainder b.remainder && same_text a.text b.text) p.1 in
-    let r = both_true (eqb a.remainder b.remainder) (same_text a.text b.text) q.1 in
-    let kind = eqb-true a.kind b.kind p.0 in
-    let size = eqb-true a.length b.length q.0 in
-    let rest = eqb-true a.remainder b.remainder r.0 in
-    let text = same_text_lem a.text b.text r.1 in
-    parts a.kind b.kind a.length b.length a.remainder b.remainder a.text b.text kind size rest text
+    let p = both_parts (eqb a.kind b.kind) _ (rw e tt) in
+    let q = both_parts (eqb a.length b.length) _ p.1 in
+    let r = both_parts (eqb a.remainder b.remainder) (same_text a.text b.text) q.1 in
+    parts a.kind b.kind a.length b.length a.remainder b.remainder a.text b.text
+    (eqb→eq a.kind b.kind p.0) (eqb→eq a.length b.length q.0) (eqb→eq a.remainder b.remainder r.0)
+    (same_text_lem a.text b.text (is_true (same_text a.text b.text) r.1))
   where
     parts : (k k' n n' r r' : ℕ) (t t' : List ℕ) → k ≡ k' → n ≡ n' → r ≡ r' → t ≡ t'
         → ◌≡◌ {A = Sheet} (record { kind = k; length = n; remainder = r; text = t }) (record { kind = k'; length = n'; remainder = r'; text = t' })

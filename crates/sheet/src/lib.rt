@@ -93,6 +93,7 @@ pub fn remainder(kind: u16, t: &[u8]) -> u64
 }
 
 // The first 34 bytes of a text, and zeros past its last.
+#[tactic(auto, using(crate::proofs::Sheets::copied_text))]
 fn copied(t: &[u8]) -> [u8; 34]
     ensures { result ≡ padded 34 (take 34 t.now) }
 {
@@ -119,14 +120,17 @@ fn sheet_with(kind: u16, length: usize, text: [u8; 34]) -> Sheet
 }
 
 // The sheet that holds a field, where the field passes every step but the remainder.
+#[tactic(auto, using(crate::proofs::Loads::iban_refused, crate::proofs::Loads::iban_sheet, crate::proofs::Loads::lei_sheet))]
 fn sheet_of(kind: u16, field: &[u8]) -> Result<Sheet, Refusal>
     ensures { characters kind field.now ≡ Pass → result ≡ Ok (sheet_of kind (held_text kind field.now)) }
 {
-    if kind == 1 {
-        let e = iban::electronic_format(field)?;
-        return Ok(sheet_with(kind, e.count, e.text));
+    match kind {
+        1 => {
+            let e = iban::electronic_format(field)?;
+            Ok(sheet_with(kind, e.count, e.text))
+        }
+        _ => Ok(sheet_with(kind, field.len(), copied(field))),
     }
-    Ok(sheet_with(kind, field.len(), copied(field)))
 }
 
 // The answer is 0 or 5: every step but the remainder passed.
@@ -144,6 +148,7 @@ fn is_summed(answer: Answer) -> bool
     )
 }
 
+#[tactic(auto, using(crate::proofs::Loads::load_other, crate::proofs::Loads::load_kept))]
 pub fn load(kind: u16, field: &[u8], old: Sheet) -> Repaired
     ensures { result ≡ load_of kind field.now old }
 {

@@ -1,7 +1,7 @@
 -- `Request::tried` meets its contract: the steps one by one, and then the load of the text that was asked for.
 use mathlib.Core.Path.{sym, ◌∙◌}
 use Rattle.std.proofs.lemmas.Result.{err_from_is_err_and}
-use Rattle.repairs.proofs.Repairs.{sheet_stops, given_stops, text_stops, repairs}
+use Rattle.repairs.proofs.Repairs.{inside, sheet_stops, given_stops, text_stops, repairs}
 use Rattle.repairs.proofs.Request.tried.Goals as goal
 
 pub returns-in_err-sheet_step : goal.returns-in_err-sheet_step
@@ -13,6 +13,9 @@ pub returns-in_err-given_steps : goal.returns-in_err-given_steps
 returns-in_err-given_steps c =
     let p = err_from_is_err_and c.from_residual-in_err-given_steps.result c.from_residual-in_err-given_steps.ensures.1 in
     rw (p.1, p.2) (given_stops _ _ (sym c.sheet_step.ensures ∙ c.in_ok-sheet_step.was) _ (sym c.given_steps.ensures ∙ c.in_err-given_steps.was))
+
+pub asked-requires : goal.asked-requires
+asked-requires c = inside _ _ (sym c.sheet_step.ensures ∙ c.in_ok-sheet_step.was) (sym c.given_steps.ensures ∙ c.in_ok-given_steps.was)
 
 pub returns-in_err-text_step : goal.returns-in_err-text_step
 returns-in_err-text_step c =
