@@ -7,15 +7,9 @@ use lib.Dec.{T}
 use Rattle.std.specs.Prelude.{Err}
 use Rattle.answer.specs.declared.Reason.{Reason}
 use Rattle.answer.specs.declared.Refusal.{Refusal}
-use Rattle.answer.specs.Result.{Answer, Accepted, refusal}
+use Rattle.answer.specs.Result.{Accepted, refusal}
 use Rattle.answer.specs.Result.{Step, Pass, Stop}
 use Rattle.answer.specs.Steps.{must, ◌and_then◌, ◌or_accept◌}
-
-pub then_is : {r a b a' b' : Step} → r ≡ a and_then b → a ≡ a' → b ≡ b' → r ≡ a' and_then b'
-then_is p q t = cc
-
-pub accept_is : {r : Answer} {a a' : Step} (n : ℕ) → r ≡ a or_accept n → a ≡ a' → r ≡ a' or_accept n
-accept_is n p q = cc
 
 -- two stops that are equal have equal parts
 pub stops_alike : {r q : Reason} {k j : ℕ} → Stop r k ≡ Stop q j → (r ≡ q) × (k ≡ j)

@@ -25,7 +25,8 @@ pub enum Reason {
     Unfit { place: usize },
 }
 
-// A refusal: why, and the check number of the step that gave it (docs/CHECKS.md).
+// A refusal: why, and the check number of the step that gave it. That is a number and no enum, since docs/CHECKS.md numbers the steps, a kind's
+// from 100 times the kind on, and steps that kinds share count on from where they are told to.
 #[derive(Clone, Copy)]
 pub struct Refusal {
     pub reason: Reason,

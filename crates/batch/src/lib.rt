@@ -91,6 +91,7 @@ pub fn run(batch: &[u8], offset: u64, out: &mut [u8], budget: u64) -> Ran
     if offset.checked_add(batch.len() as u64).is_none() {
         return ran;
     }
+    // A loop that a stop ends: it has the stop to return, and no step of it is a count.
     loop {
         let rest = &batch[ran.read..];
         let room = &mut out[ran.written..];

@@ -8,7 +8,8 @@ ghost use Rattle.codes.specs.Inner.{packed_fit, table_rule};
 use answer::{Answer, Reason, Step, must};
 use text::Set;
 
-// The steps that come before the search in the list, for a code of n bytes.
+// The steps that come before the search in the list, for a code of n bytes. The kind is its number, since the steps' check numbers are
+// computed from it.
 #[tactic(auto, using(answer::proofs::Laws::steps), unfolding(crate::specs::Codes::well_spelt))]
 pub fn well_spelt(kind: u8, n: usize, s: &[u8]) -> Step
     ensures { result ≡ well_spelt kind n s.now }

@@ -52,7 +52,8 @@ impl TryFrom<u16> for Rule {
     }
 }
 
-// The order in which the steps of a kind's check are asked. SCOPE's order for a field is 12, 11, 1, then the rule's steps; any order that gives
+// The order in which the steps of a kind's check are asked; an enum and no closure, since what suits a kind is proved of it by name (`Suits`).
+// SCOPE's order for a field is 12, 11, 1, then the rule's steps; any order that gives
 // the same answers will do, and the quickest is taken.
 #[derive(Clone, Copy)]
 enum Way {
@@ -137,7 +138,7 @@ fn after_rule(way: Way, value: &[u8]) -> Step
     }
 }
 
-// The check of a field of any kind.
+// The check of a field of any kind. The kind is a number, since any may be handed in.
 pub fn check_field(kind: u16, value: &[u8]) -> Answer
     ensures { result ≡ check_field kind value.now }
 {

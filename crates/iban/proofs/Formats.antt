@@ -1,7 +1,7 @@
 -- From the first pass and the class steps on its text to the definition: the electronic format, and the answer.
 use Prim.Native.Nat.{ℕ, ◌≤◌}
 use mathlib.Core.Path.{◌≡◌, refl, sym, ◌∙◌, ap}
-use mathlib.Core.List.{List, []}
+use mathlib.Core.List.{List}
 use native.Mathlib.Omega.{arith}
 use lib.ListN.{length, take}
 use Rattle.answer.specs.Steps.{◌and_then◌, ◌or_accept◌}

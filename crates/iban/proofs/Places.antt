@@ -8,7 +8,7 @@ use lib.Dec.{eqb, ltb}
 use lib.ListN.{length}
 use Rattle.answer.specs.Table.{row_of}
 use Rattle.std.specs.Prelude.{Err}
-use Rattle.answer.specs.Result.{Refused, Step, Pass, Stop}
+use Rattle.answer.specs.Result.{Refused, Step, Pass}
 use Rattle.answer.specs.declared.Reason.{Reason}
 use Rattle.answer.specs.declared.Reason.TheVariants.{Wrong}
 use Rattle.text.proofs.Near.{Near, Small, Short, near_pass, near_at, near_must, near_then, nears}

@@ -12,7 +12,8 @@ use answer::{Answer, Numbers, Reason, Refusal, Step, must};
 use text::Set;
 use utf8::Walk;
 
-// An IBAN in electronic format, that is, without blanks: its characters, their count, and zeros past the last of them. The count may be
+// An IBAN in electronic format, that is, without blanks: its characters, their count, and zeros past the last of them; an array, since nothing
+// here is on a heap. The count may be
 // above 34, of which a refusal tells; then the text holds the first 34.
 #[derive(Clone, Copy)]
 pub struct Electronic {

@@ -9,7 +9,7 @@ ghost use Rattle.record.specs.Head.{head_of};
 // The longest value that a head may announce.
 pub const HEAD_LIMIT: usize = 8192;
 
-// What a whole record's head says: its kind, and the length of its value.
+// What a whole record's head says: its kind, which is a number, since a record may have any, and the length of its value.
 #[derive(Clone, Copy)]
 pub struct Head {
     pub kind: u16,

@@ -54,6 +54,7 @@ fn unfit(refusal: Refusal) -> Refusal
     }
 }
 
+// A sheet's kind is a number, as any may be handed in (`sheet::Sheet`).
 fn text_step(kind: u16, t: &[u8]) -> Step
     ensures { result ≡ text_step kind t.now }
 {

@@ -102,7 +102,8 @@ fn put_named(out: &mut [u8], word: &[u8], x: u64, after: u8) -> usize
     n + put_field(&mut out[n..], x, after)
 }
 
-// The last line at the start of a buffer, and its length: 0 where the longest has no room.
+// The last line at the start of a buffer, and its length: 0 where the longest has no room. That is how many bytes were written, which the contract
+// states, and so no `Option`.
 pub fn last_line(out: &mut [u8], stop: u64, judged: u64, read: u64) -> usize
     ensures { placed result out.new ≡ ended out.old stop judged read }
 {

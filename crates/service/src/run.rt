@@ -139,7 +139,7 @@ impl Run {
     }
 
     // A turn: judges what is held, writes the lines, and reads on where no whole record is left. Whether another turn follows; else the last
-    // line does.
+    // line does. The reader and the writer are parameters and no fields: a struct that held them would owe clauses that they stay the same two.
     fn step<I: Read, W: Write>(&mut self, input: &mut I, output: &mut W) -> Result<bool, Failed>
         ensures turn_adds { TurnAdds self.old self.new result }
         ensures moved { Moved self.old self.new result }

@@ -71,7 +71,7 @@ fn nibble(b: u8) -> u8
     }
 }
 
-// The bytes that a hexadecimal word writes, as many as there is room for: how many.
+// The bytes that a hexadecimal word writes, as many as there is room for, into a buffer that every line uses anew: how many.
 fn unhex(word: &[u8], value: &mut [u8]) -> usize
     ensures { result ≤ length value.new }
 {

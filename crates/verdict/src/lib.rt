@@ -47,7 +47,7 @@ pub fn verdict_bytes(kind: u16, offset: u64, a: Answer) -> [u8; VERDICT_SIZE]
 }
 
 // What the verdict at the start of `v` says, read from the places where it was written; fewer bytes than a verdict has say nothing, 0
-// throughout.
+// throughout: SCOPE's reader cannot fail, so this is no `Option`.
 #[tactic(auto, unfolding(crate::specs::Verdict::read_verdict))]
 pub fn read_verdict(v: &[u8]) -> Verdict
     ensures { result ≡ read_verdict v.now }

@@ -6,7 +6,7 @@ use Rattle.std.proofs.lemmas.Result.{err_from_is_err_and}
 use Rattle.answer.proofs.Laws.{test_held_true}
 use Rattle.utf8.specs.Chars.{left}
 use Rattle.utf8.proofs.Walks.{room_more, prefix_inside}
-use Rattle.iban.proofs.Blanks.{starts, past_blank, past_char, beyond_ascii, reached, no_character, ends}
+use Rattle.iban.proofs.Blanks.{starts, past_blank, past_char, beyond_ascii, no_character, ends}
 use Rattle.iban.proofs.drop_blanks.Goals as goal
 
 pub loop-place-init : goal.loop-place-init

@@ -1,10 +1,8 @@
 -- `iban::validate_iban` meets its contract: what the character steps say, and where they pass the step on the remainder of the text in electronic format.
-use Prim.Native.Nat.{ℕ}
-use mathlib.Core.Path.{sym, ◌∙◌, ap}
+use mathlib.Core.Path.{sym, ◌∙◌}
 use native.Mathlib.Omega.{arith}
 use Rattle.std.proofs.lemmas.Result.{err_from_is_err_and}
 use Rattle.answer.proofs.Laws.{refuses, accepts}
-use Rattle.checkdigit.specs.RemainderStep.{remainder_step}
 use Rattle.iban.proofs.Formats.{format_refuses, formed_room, sum_is}
 use Rattle.iban.proofs.validate_iban.Goals as goal
 
