@@ -36,7 +36,8 @@ fn at_most(most: usize, from: usize, count: usize, check: u16) -> Step
     )
 }
 
-// A part from one place up to another: not empty, digits only, no more than so many. It is no slice, since a refusal tells a place of the field.
+// A part from one place up to another: not empty, digits only, no more than so many. It is no slice, since a refusal tells a place of the field. Its
+// check numbers count on from one that has room for them.
 #[tactic(auto, using(answer::proofs::Laws::steps), unfolding(crate::specs::Amount::part))]
 fn part(s: &[u8], from: usize, to: usize, most: usize, check: u16) -> Step
     requires { check < 1000 }

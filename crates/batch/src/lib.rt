@@ -47,7 +47,7 @@ pub struct Ran {
 }
 
 // What a call does before a record, by the head that stands there, the room left in the output, and the budget left: it judges that record,
-// or stops. With the budget spent 31 comes before any stop but 0.
+// or stops. With the budget spent 31 comes before any stop but 0, so that why there is no record is no `From` of a stop.
 #[tactic(auto, unfolding(crate::specs::Walk::next_of))]
 pub fn next(head: Result<Head, NoRecord>, room: usize, budget: u64) -> Result<Head, Stop>
     ensures { result ≡ next_of head room budget }

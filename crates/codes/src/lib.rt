@@ -38,10 +38,7 @@ fn pack(code: &[u8]) -> Option<u32>
 fn listed(table: &[u32], code: &[u8]) -> bool
     ensures { result ≡ among table.now (packed code.now) }
 {
-    match pack(code) {
-        Some(n) => table.contains(&n),
-        None => false,
-    }
+    pack(code).is_some_and(|n| table.contains(&n))
 }
 
 // The rule of a kind whose codes have n bytes and stand in a table, each packed.

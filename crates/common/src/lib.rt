@@ -88,7 +88,8 @@ impl Part<'_> {
     }
 }
 
-// After the `.`, from a place on, stand at least `least` bytes and at most two.
+// After the `.`, from a place on, stand at least `least` bytes and at most two. Like amount's step on a count but for its test: each is one call
+// of `must`.
 fn at_most_two(least: usize, from: usize, count: usize, check: u16) -> Step
     ensures { result ≡ must (within least 2 count) (Reason.Length from count) check }
 {

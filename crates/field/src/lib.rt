@@ -11,7 +11,7 @@ use answer::{Answer, Reason, Refusal, Step, must};
 pub const FIELD_LIMIT: usize = 4096;
 
 // The rules, one for each kind that is known. A new kind has a line here, in `try_from` and in `ask`.
-#[derive(Clone, Copy, PartialEq, Eq)]
+#[derive(Clone, Copy)]
 enum Rule {
     Iban,
     Lei,
@@ -53,8 +53,7 @@ impl TryFrom<u16> for Rule {
 }
 
 // The order in which the steps of a kind's check are asked; an enum and no closure, since what suits a kind is proved of it by name (`Suits`).
-// SCOPE's order for a field is 12, 11, 1, then the rule's steps; any order that gives
-// the same answers will do, and the quickest is taken.
+// SCOPE's order for a field is 12, 11, 1, then the rule's steps; any order that gives the same answers will do, and the quickest is taken.
 #[derive(Clone, Copy)]
 enum Way {
     // The kind's rule accepts ASCII only, which is UTF-8: the rule is asked first, and only a field that it refuses is looked at for UTF-8.
@@ -145,6 +144,7 @@ pub fn check_field(kind: u16, value: &[u8]) -> Answer
     let rule = Rule::try_from(kind)?;
     let way = rule.way();
     before_rule(way, value)?;
+    // A match and no `or_else`, which would hold the field for its closure before it is known that it is called.
     match rule.ask(value) {
         Ok(n) => Ok(n),
         Err(refusal) => {

@@ -8,13 +8,12 @@ ghost use Rattle.iban.specs.Iban.{count_step, class_steps, reason_in, iban_answe
 ghost use Rattle.iban.specs.Format.{padded, format_of};
 ghost use Rattle.iban.specs.Inner.{Dropped};
 
-use answer::{Answer, Numbers, Reason, Refusal, Step, must};
+use answer::{Answer, Reason, Refusal, Step, must};
 use text::Set;
 use utf8::Walk;
 
 // An IBAN in electronic format, that is, without blanks: its characters, their count, and zeros past the last of them; an array, since nothing
-// here is on a heap. The count may be
-// above 34, of which a refusal tells; then the text holds the first 34.
+// here is on a heap. The count may be above 34, of which a refusal tells; then the text holds the first 34.
 #[derive(Clone, Copy)]
 pub struct Electronic {
     pub count: usize,
@@ -95,7 +94,7 @@ pub fn class_steps(t: &[u8]) -> Step
     text::first_wrong(Set::LettersDigits, t, 4, t.len(), 105)
 }
 
-// The place in the lent field of the k-th character in electronic format.
+// The place in the lent field of the k-th character in electronic format; 0 where there are fewer, which the definition asks for.
 fn place_of(s: &[u8], k: usize) -> usize
     ensures { result ≡ place_in k (electronic s.now) }
 {
@@ -110,13 +109,12 @@ fn place_of(s: &[u8], k: usize) -> usize
 fn reason_in(s: &[u8], reason: Reason) -> Reason
     ensures { result ≡ reason_in (electronic s.now) reason }
 {
-    let numbers = Numbers::from(reason);
-    if numbers.number == 3 {
-        return Reason::Wrong {
-            place: place_of(s, numbers.place),
-        };
+    match reason {
+        Reason::Wrong { place } => Reason::Wrong {
+            place: place_of(s, place),
+        },
+        _ => reason,
     }
-    reason
 }
 
 #[tactic(auto, unfolding(crate::specs::Iban::count_step))]
@@ -138,6 +136,7 @@ pub fn electronic_format(s: &[u8]) -> Result<Electronic, Refusal>
     let e = without_blanks(s)?;
     count_step(e.count)?;
     let characters = &e.text[..e.count];
+    // Tried with `map_err`: what is known of the closure's result is out of a lemma's reach.
     match class_steps(characters) {
         Ok(()) => Ok(e),
         Err(refusal) => Err(Refusal {

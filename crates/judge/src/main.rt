@@ -20,10 +20,7 @@ fn refuse(rt: &impl Eprint) {
 fn offset_in(word: Option<&[u8]>) -> Option<u64>
     ensures { MatchOption word.entry (result ≡ Some 0) (λ w. result ≡ offset_of w.now) }
 {
-    match word {
-        Some(w) => report::parse(w),
-        None => Some(0),
-    }
+    word.map_or(Some(0), report::parse)
 }
 
 // The same from the system's arguments; none where there are two, or one that does not fit.

@@ -36,7 +36,7 @@ pub fn read_number(b: &[u8]) -> u64
     u64::from_le_bytes(bytes)
 }
 
-// As many of a number's bytes as there is room for, the lowest first.
+// As many of a number's bytes as there is room for, the lowest first; one by one, since the library's are eight, and a slice may be longer.
 #[tactic(auto, using(crate::proofs::Numbers::write_more))]
 pub fn write_number(b: &mut [u8], x: u64)
     ensures { b.new ≡ to_bytes (length b.old) x }

@@ -39,7 +39,8 @@ fn width(x: u64) -> usize
     x.checked_ilog10().unwrap_or(0) as usize + 1
 }
 
-// A number in decimal and the byte after it, at the start of a buffer: how many bytes they are.
+// A number in decimal and the byte after it, at the start of a buffer: how many bytes they are. The buffer is lent from the next place on, by
+// the caller: a struct with the buffer and the place would be one more thing to keep in order.
 #[tactic(auto, using(crate::proofs::Puts::fields))]
 fn put_field(out: &mut [u8], x: u64, after: u8) -> usize
     requires { length (field x after) ≤ length out.old }

@@ -22,7 +22,7 @@ ghost use Rattle.stitchbarrow.specs.Inner.{Replies};
 use answer::{Answer, Numbers};
 use sheet::{Repaired, Sheet};
 
-// What a function returns where a lent slice is too short for what it would write.
+// What a function returns where a lent slice is too short for what it would write; a number, as the header has it, and so are kinds.
 const TOO_SHORT: u8 = 255;
 
 // How many bytes an answer takes, and a sheet.
@@ -94,7 +94,7 @@ fn write_sheet(b: &mut [u8], s: Sheet)
     requires { sheet_size ≤ length b.old }
     ensures { b.new ≡ sheet_bytes s ++ drop sheet_size b.old }
 {
-    record::write_number(&mut b[0..2], s.kind as u64);
+    record::write_number(&mut b[0..2], u64::from(s.kind));
     record::write_number(&mut b[2..4], s.length as u64);
     record::write_number(&mut b[4..12], s.remainder);
     b[12..46].copy_from_slice(&s.text);

@@ -20,7 +20,7 @@ ghost use Rattle.text.specs.Field.{
 
 use answer::{Reason, Step, must};
 
-#[derive(Clone, Copy, PartialEq, Eq)]
+#[derive(Clone, Copy)]
 pub enum Class {
     Digit,
     Capital,
@@ -29,7 +29,7 @@ pub enum Class {
 }
 
 // The sets of bytes that the rules allow at a place.
-#[derive(Clone, Copy, PartialEq, Eq)]
+#[derive(Clone, Copy)]
 pub enum Set {
     Digits,
     Capitals,
@@ -135,7 +135,8 @@ pub fn present(at: usize, end: usize, check: u16) -> Step
     must(at < end, Reason::Missing { place: at }, u32::from(check))
 }
 
-// The first of n bytes from a place on that the set does not allow.
+// The first of n bytes from a place on that the set does not allow. A step has the field and a place in it, and no slice from there on, since a
+// refusal tells a place of the field; and it counts from 0, since the place and n may together be past what a `usize` holds.
 fn wrong_from(set: Set, s: &[u8], from: usize, n: usize, check: u16) -> Step
     ensures { result ≡ wrong_from set s.now from n check }
 {
@@ -165,7 +166,7 @@ pub fn literal(s: &[u8], i: usize, b: u8, check: u16) -> Step
     must(at(s, i) == b, Reason::Wrong { place: i }, u32::from(check))
 }
 
-// A number that was read at a place lies from low to high.
+// A number that was read at a place lies from low to high: two numbers and no range, as in the definition.
 #[tactic(auto, unfolding(crate::specs::Field::in_range))]
 pub fn in_range(i: usize, low: u64, high: u64, n: u64, check: u32) -> Step
     ensures { result ≡ in_range i low high n check }

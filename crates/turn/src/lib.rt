@@ -6,7 +6,7 @@ ghost use Rattle.turn.specs.Turn.{room_of, turn_of, turning_of};
 
 use batch::Stop;
 
-// Why the call stopped, records judged, bytes read, and bytes of text written.
+// Why the call stopped, records judged, bytes read, and bytes of text written. Not a `batch::Ran`, whose `written` counts the bytes of verdicts.
 #[derive(Clone, Copy)]
 pub struct Turned {
     pub stop: Stop,

@@ -5,7 +5,7 @@ use mathlib.Core.Bool.{Bool, true, false, ◌&&◌, ◌||◌, cond}
 use mathlib.Core.List.{List, [], ◌∷◌}
 use mathlib.Core.Logic.{◌⊎◌, inl, inr, ⊎_elim}
 use native.Mathlib.Omega.{arith}
-use lib.Dec.{T, leb, ltb, leb→le, ltb→lt}
+use lib.Dec.{T, leb, ltb, leb→le, ltb→lt, eqb}
 use lib.ListN.{length, get_or, drop, length-drop, drop_of_length-le}
 use lib.Seq.{drop-cons, get_or-drop, drop-nil, drop-drop}
 use Rattle.text.specs.Ranges.{within}
@@ -84,6 +84,10 @@ needs_byte s k w lo hi i h t =
     ⊎_elim (λ u. inl (ltb→lt w k u)) (λ u. inr (within_text s i (let e = within-ends lo hi (get_or s i 0) u in omega arith)))
     (either_parts (ltb w k) (within lo hi (get_or s i 0)) t)
 
+asked : (t u : Bool) → T (cond t false u) → (t ≡ false) × T u
+asked true u t = absurd t
+asked false u t = (refl, t)
+
 -- the bytes that the width asks for are there
 wide : (s : List ℕ) (l : Lead) → T (sound l) → T (well_formed l (get_or s 0 0) (get_or s 1 0) (get_or s 2 0)) → (1 ≤ l.width) × (l.width ≤ suc (length s))
 unfolding well_formed sound
@@ -92,7 +96,8 @@ wide s l b t =
     let second = needed 2 w l.low l.high (get_or s 0 0) in
     let third = needed 3 w 0x80 0xBF (get_or s 1 0) in
     let fourth = needed 4 w 0x80 0xBF (get_or s 2 0) in
-    let q = both_parts second (third && fourth) t in
+    let p = asked (eqb w 0) (second && (third && fourth)) t in
+    let q = both_parts second (third && fourth) p.1 in
     let r = both_parts third fourth q.1 in
     let m = both_parts (within 1 4 w) (ltb w 2 || leb 1 l.low) b in
     let ends = within-ends 1 4 w m.0 in (

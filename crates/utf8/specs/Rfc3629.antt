@@ -1,5 +1,5 @@
 -- RFC 3629, sections 3 and 4: which bytes make a character of UTF-8 (the table of section 4's syntax), and the bits that they carry (the table of section 3).
-use Rattle.std.specs.Prelude.{ℕ, ◌+◌, ◌*◌, ◌%◌, Bool, ◌&&◌, ◌||◌, cond, List, [], ◌∷◌, Option, Some, None, ltb, eqb, get_or}
+use Rattle.std.specs.Prelude.{ℕ, ◌+◌, ◌*◌, ◌%◌, Bool, false, ◌&&◌, ◌||◌, cond, List, [], ◌∷◌, Option, Some, None, ltb, eqb, get_or}
 use Rattle.text.specs.Ranges.{within, Span, span, find}
 use Rattle.utf8.specs.declared.Lead.{Lead}
 use Rattle.utf8.specs.declared.Char.{Char}
@@ -33,7 +33,8 @@ needed k w lo hi x = ltb w k || within lo hi x
 -- the bytes after the first: the second is in the row's range, and the others are UTF8-tail
 unfoldable pub well_formed : Lead → ℕ → ℕ → ℕ → Bool
 well_formed l b c d =
-    needed 2 l.width l.low l.high b && (needed 3 l.width 0x80 0xBF c && needed 4 l.width 0x80 0xBF d)
+    cond (eqb l.width 0) false
+    (needed 2 l.width l.low l.high b && (needed 3 l.width 0x80 0xBF c && needed 4 l.width 0x80 0xBF d))
 
 -- section 3: the x of 0xxxxxxx, 110xxxxx 10xxxxxx, 1110xxxx 10xxxxxx 10xxxxxx, 11110xxx 10xxxxxx 10xxxxxx 10xxxxxx
 unfoldable pub scalar_of : ℕ → ℕ → ℕ → ℕ → ℕ → ℕ

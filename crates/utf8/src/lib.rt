@@ -75,7 +75,10 @@ fn well_formed(l: Lead, b: u8, c: u8, d: u8) -> bool
     ensures { result ≡ well_formed l b c d }
 {
     let w = l.width;
-    need(2, w, l.low, l.high, b) && need(3, w, 0x80, 0xBF, c) && need(4, w, 0x80, 0xBF, d)
+    w != 0
+        && need(2, w, l.low, l.high, b)
+        && need(3, w, 0x80, 0xBF, c)
+        && need(4, w, 0x80, 0xBF, d)
 }
 
 // The bits so far, and then the six of a byte 10xxxxxx.
@@ -99,7 +102,7 @@ fn scalar(w: usize, a: u8, b: u8, c: u8, d: u8) -> u32
     }
 }
 
-// The character that starts at a place, by the row of RFC 3629's table that its first byte has. Out of line, so that `decode` stays small enough
+// The character that starts at a place, by the row of RFC 3629's table that its first byte has; a place, as `decode` has it. Out of line, so that `decode` stays small enough
 // to be inlined: most characters are ASCII even in a text that is not.
 #[inline(never)]
 #[tactic(auto, using(crate::proofs::Chars::row_none, crate::proofs::Chars::row_bad, crate::proofs::Chars::row_char))]

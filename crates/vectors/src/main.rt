@@ -8,25 +8,34 @@ use answer::{Answer, Numbers};
 use std::io;
 use std::io::Read;
 
+// The list's number for a refusal of whatever reason.
 const ANY_REFUSAL: u64 = 255;
 
-// What a line expects.
-#[derive(Clone, Copy)]
+// What a line expects: numbers, as the list has them.
+#[derive(Clone, Copy, PartialEq, Eq)]
 struct Expected {
     answer: u64,
     place: u64,
     number: u64,
 }
 
+impl From<Answer> for Expected {
+    fn from(answer: Answer) -> Expected {
+        let told = Numbers::from(answer);
+        Expected {
+            answer: u64::from(told.number),
+            place: told.place as u64,
+            number: told.value,
+        }
+    }
+}
+
 impl Expected {
     fn met_by(self, a: Answer) -> bool {
-        let told = Numbers::from(a);
         if self.answer == ANY_REFUSAL {
-            return told.number != 0;
+            return a.is_err();
         }
-        u64::from(told.number) == self.answer
-            && told.place as u64 == self.place
-            && told.value == self.number
+        self == Expected::from(a)
     }
 }
 

@@ -9,7 +9,7 @@ use answer::{Answer, Numbers};
 // How many bytes each record yields.
 pub const VERDICT_SIZE: usize = 24;
 
-// What a verdict says of its record: the stream offset, the kind, and the three numbers of the answer.
+// What a verdict says of its record: the stream offset, the kind, and the three numbers of the answer; numbers, as its bytes may say any.
 #[derive(Clone, Copy, Default)]
 pub struct Verdict {
     pub offset: u64,
