@@ -75,10 +75,7 @@ fn well_formed(l: Lead, b: u8, c: u8, d: u8) -> bool
     ensures { result ≡ well_formed l b c d }
 {
     let w = l.width;
-    w != 0
-        && need(2, w, l.low, l.high, b)
-        && need(3, w, 0x80, 0xBF, c)
-        && need(4, w, 0x80, 0xBF, d)
+    w != 0 && need(2, w, l.low, l.high, b) && need(3, w, 0x80, 0xBF, c) && need(4, w, 0x80, 0xBF, d)
 }
 
 // The bits so far, and then the six of a byte 10xxxxxx.
