@@ -40,6 +40,20 @@ pub number_past : (s : List ℕ) → 2 ^ 32 ≤ packed s → None ≡ packed_fit
 unfolding packed_fit
 number_past s h = rw (le-ltb (packed s) (2 ^ 32) h)
 
+-- a code of two bytes, and one of three
+pub two_fit : (s : List ℕ) (n : ℕ) → length s ≡ 2 → n ≡ 256 * get_or s 0 0 + get_or s 1 0 → n < 2 ^ 32 → Some n ≡ packed_fit s
+two_fit [] n l e h = absurd (omega arith)
+two_fit (a ∷ []) n l e h = absurd (omega arith)
+two_fit (a ∷ b ∷ []) n l e h = number_fits (a ∷ b ∷ []) n h (omega arith)
+two_fit (a ∷ b ∷ c ∷ s) n l e h = absurd (omega arith)
+
+pub three_fit : (s : List ℕ) (n : ℕ) → length s ≡ 3 → n ≡ 65536 * get_or s 0 0 + 256 * get_or s 1 0 + get_or s 2 0 → n < 2 ^ 32 → Some n ≡ packed_fit s
+three_fit [] n l e h = absurd (omega arith)
+three_fit (a ∷ []) n l e h = absurd (omega arith)
+three_fit (a ∷ b ∷ []) n l e h = absurd (omega arith)
+three_fit (a ∷ b ∷ c ∷ []) n l e h = number_fits (a ∷ b ∷ c ∷ []) n h (omega arith)
+three_fit (a ∷ b ∷ c ∷ d ∷ s) n l e h = absurd (omega arith)
+
 -- a table of numbers of 32 bits has no higher one
 pub past_table : (table : List ℕ) (code : ℕ) → ((i : ℕ) → get_or table i 0 < 2 ^ 32) → 2 ^ 32 ≤ code → among table code ≡ false
 past_table [] code h k = refl

@@ -1,7 +1,7 @@
 // Codes of capital letters that stand on a list: the rule that kinds 7 and 8 share.
 #![tactic(auto)]
 
-ghost use Rattle.std.specs.Prelude.{◌≡◌};
+ghost use Rattle.std.specs.Prelude.{◌≡◌, ◌+◌, ◌*◌};
 ghost use Rattle.codes.specs.Codes.{well_spelt, packed, among};
 ghost use Rattle.codes.specs.Inner.{packed_fit, table_rule};
 
@@ -21,11 +21,24 @@ pub fn well_spelt(kind: u8, n: usize, s: &[u8]) -> Step
     text::first_wrong(Set::Capitals, s, 0, n, first + 4)
 }
 
-// A code's bytes packed into one number, the first the highest, so that one comparison compares a whole code. A code whose number has more
-// than 32 bits has none.
-fn pack(code: &[u8]) -> Option<u32>
+// Three bytes packed into one number, the first the highest, so that one comparison compares a whole code. A code of two bytes has 0 for
+// the first.
+pub fn pack(a: u8, b: u8, c: u8) -> u32
+    ensures { result ≡ 65536 * a + 256 * b + c }
+{
+    65536 * u32::from(a) + 256 * u32::from(b) + u32::from(c)
+}
+
+// The number of a code of any length; one that has more than 32 bits has none. The codes of the two lists have two and three bytes.
+#[tactic(auto, using(crate::proofs::Laws::two_fit, crate::proofs::Laws::three_fit))]
+fn packed_fit(code: &[u8]) -> Option<u32>
     ensures { result ≡ packed_fit code.now }
 {
+    match code {
+        [b, c] => return Some(pack(0, *b, *c)),
+        [a, b, c] => return Some(pack(*a, *b, *c)),
+        _ => {}
+    }
     let mut n: u32 = 0;
     for b in code {
         n = n.checked_mul(256)?.checked_add(u32::from(*b))?;
@@ -38,7 +51,7 @@ fn pack(code: &[u8]) -> Option<u32>
 fn listed(table: &[u32], code: &[u8]) -> bool
     ensures { result ≡ among table.now (packed code.now) }
 {
-    pack(code).is_some_and(|n| table.contains(&n))
+    packed_fit(code).is_some_and(|n| table.contains(&n))
 }
 
 // The rule of a kind whose codes have n bytes and stand in a table, each packed.

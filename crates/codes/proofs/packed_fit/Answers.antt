@@ -1,8 +1,8 @@
--- `codes::pack` meets its contract: once the number is past 32 bits it stays past them.
+-- `codes::packed_fit` meets its contract: once the number is past 32 bits it stays past them.
 use Rattle.std.proofs.Common.{◌≡◌, ◌+◌, ◌*◌, arith, ◌≤◌, length, drop, get_or, ◌∙◌, sym}
 use lib.ListN.{drop_of_length-le}
 use Rattle.codes.proofs.Laws.{packed_grows, packed_next, number_fits, number_past}
-use Rattle.codes.proofs.pack.Goals as goal
+use Rattle.codes.proofs.packed_fit.Goals as goal
 
 pub returns-in_err-checked_mul : goal.returns-in_err-checked_mul
 returns-in_err-checked_mul c =
