@@ -27,6 +27,32 @@ text-more : (l : List Character) (c : Character) → text_of (l ++ (c ∷ [])) �
 unfolding text_of
 text-more l c = map-append (λ c. c.scalar) l (c ∷ [])
 
+-- a character that stands first stands at the place where they begin, and the others stand past it
+abbrev pub others : List Char → List Char
+others [] = []
+others (c ∷ cs) = cs
+
+abbrev first_place : List (ℕ × Char) → ℕ
+first_place [] = 0
+first_place (p ∷ ps) = p.0
+
+abbrev first_width : List (ℕ × Char) → ℕ
+first_width [] = 0
+first_width (p ∷ ps) = p.1.width
+
+abbrev past_first : List (ℕ × Char) → List (ℕ × Char)
+past_first [] = []
+past_first (p ∷ ps) = ps
+
+first_stands : (end : ℕ) (cs : List Char) (at : ℕ) (c : Char) (rest : List (ℕ × Char)) → placed end cs ≡ (at, c) ∷ rest
+    → (at ≡ end) × (rest ≡ placed (at + c.width) (others cs))
+unfolding placed
+first_stands end [] at c rest e = absurd (omega (arith, ap length e))
+first_stands end (d ∷ cs) at c rest e =
+    let f : end ≡ at = ap first_place e in
+    let g : d.width ≡ c.width = ap first_width e in
+    (sym f, sym (ap past_first e) ∙ ap (λ (n : ℕ). placed n cs) (omega (arith, f, g)))
+
 -- the characters that are left stand from `end` on
 pub record Dropping (s : List ℕ) (left : List (ℕ × Char)) (end count : ℕ) (text : List ℕ) : Type 0 where
   pub few : count + length left ≤ length s
@@ -36,6 +62,8 @@ pub record Dropping (s : List ℕ) (left : List (ℕ × Char)) (end count : ℕ)
   pub ascii : all_ascii (electronic s) ≡ all_ascii (kept left)
   pub size : count ≡ length passed
   pub holds : text ≡ padded 34 (text_of passed)
+  pub following : List Char
+  pub stand : left ≡ placed end following
 
 pub starts : (s text : List ℕ) (left : List (ℕ × Char)) → left ≡ placed 0 (chars s) → text ≡ padded 34 [] → Dropping s left 0 0 text
 unfolding text_of
@@ -49,6 +77,8 @@ starts s text left p e =
       ascii = ap all_ascii all;
       size = refl;
       holds = e;
+      following = chars s;
+      stand = p;
     }
 
 -- a pass that stops refuses
@@ -58,32 +88,39 @@ stops s e f = record { ascii = sym f; holds = λ x q. let z : ◌≡◌ {A = ℕ
 module _ (s : List ℕ) (left : List (ℕ × Char)) (end count : ℕ) (text : List ℕ) (o : Dropping s left end count text) where
   -- the next character
   module _ (at : ℕ) (c : Char) (rest : List (ℕ × Char)) (p : left ≡ (at, c) ∷ rest) where
-    pub past_blank : white_space c.scalar ≡ true → Dropping s rest (end + c.width) count text
+    pub at_end : (at ≡ end) × (rest ≡ placed (at + c.width) (others o.following))
+    at_end = first_stands end o.following at c rest (sym o.stand ∙ p)
+
+    pub past_blank : white_space c.scalar ≡ true → Dropping s rest (at + c.width) count text
     past_blank e =
         let same : kept left ≡ kept rest = rw (p, e) in
         record {
           few = omega (arith, o.few, ap length p);
-          prefix = omega (arith, o.prefix, room_more left rest (at, c) p);
+          prefix = omega (arith, o.prefix, room_more left rest (at, c) p, at_end.0);
           passed = o.passed;
           whole = o.whole ∙ ap (λ (l : List Character). o.passed ++ l) same;
           ascii = o.ascii ∙ ap all_ascii same;
           size = o.size;
           holds = o.holds;
+          following = others o.following;
+          stand = at_end.1;
         }
 
-    pub past_char : white_space c.scalar ≡ false → c.scalar < 128 → Dropping s rest (end + c.width) (count + 1) (set text count c.scalar)
+    pub past_char : white_space c.scalar ≡ false → c.scalar < 128 → Dropping s rest (at + c.width) (count + 1) (set text count c.scalar)
     unfolding all_ascii ◌and_then◌
     past_char e small =
         let here : Character = record { place = at; scalar = c.scalar } in
         let next : kept left ≡ here ∷ kept rest = rw (p, e) in
         record {
           few = omega (arith, o.few, ap length p);
-          prefix = omega (arith, o.prefix, room_more left rest (at, c) p);
+          prefix = omega (arith, o.prefix, room_more left rest (at, c) p, at_end.0);
           passed = o.passed ++ (here ∷ []);
           whole = o.whole ∙ ap (λ (l : List Character). o.passed ++ l) next ∙ sym (append_assoc o.passed (here ∷ []) (kept rest));
           ascii = o.ascii ∙ rw (next, lt-ltb c.scalar 128 small);
           size = omega (arith, o.size, length-append o.passed (here ∷ []));
           holds = rw (o.holds, o.size, ← length-text o.passed) (padded-more 34 (text_of o.passed) c.scalar ∙ ap (padded 34) (sym (text-more o.passed here)));
+          following = others o.following;
+          stand = at_end.1;
         }
 
     pub beyond_ascii : (e : Refusal) → white_space c.scalar ≡ false → must (ltb c.scalar 128) (Wrong at) 101 ≡ Err e → Dropped s (Err e)

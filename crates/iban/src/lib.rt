@@ -44,7 +44,7 @@ fn drop_blanks(s: &[u8]) -> Result<Electronic, Refusal>
     let mut count = 0;
     let mut end = 0;
     for (place, c) in Walk::new(s) {
-        end += c.width;
+        end = place + c.width;
         if utf8::is_white_space(c.scalar) {
             continue;
         }
@@ -150,7 +150,7 @@ pub fn validate_iban(s: &[u8]) -> Answer
     ensures { result ≡ iban_answer s.now }
 {
     let e = electronic_format(s)?;
-    let characters = &e.text[..e.count];
-    checkdigit::remainder_is_one(checkdigit::iban_remainder(characters), 106)?;
+    let r = checkdigit::iban_remainder(&e.text[0..e.count]);
+    checkdigit::remainder_is_one(r, 106)?;
     Ok(1)
 }

@@ -28,6 +28,10 @@ char_inside s at c e = let p = front-width (drop at s) c.scalar c.width (sym e) 
 pub placed_end : (s : List ℕ) (at : ℕ) → length s ≤ at → placed at (chars (drop at s)) ≡ []
 placed_end s at h = placed_none s at (no_front s at h)
 
+-- of an empty text none are left, wherever the walk stands: with it the edit walk_elsewhere is refused for its place, and not for what is left
+pub none_left : (s : List ℕ) (at : ℕ) → length s ≡ 0 → placed at (chars (drop at s)) ≡ placed 0 (chars s)
+none_left s at e = placed_end s at (omega (arith, e)) ∙ sym (placed_end s 0 (omega (arith, e)))
+
 -- they are no more than the text's bytes
 pub few_chars : (k : ℕ) (s : List ℕ) → length (chars_past k s) ≤ length s
 unfolding chars_past

@@ -99,9 +99,9 @@ fn scalar(w: usize, a: u8, b: u8, c: u8, d: u8) -> u32
     }
 }
 
-// The character that starts at a place, by the row of RFC 3629's table that its first byte has; a place, as `decode` has it. Out of line, so that `decode` stays small enough
-// to be inlined: most characters are ASCII even in a text that is not.
-#[inline(never)]
+// The character that starts at a place, by the row of RFC 3629's table that its first byte has; a place, as `decode` has it. It and `decode` are
+// written out where a walk calls them: a call would hand each character back through memory, which costs more than to decode it.
+#[inline(always)]
 #[tactic(auto, using(crate::proofs::Chars::row_none, crate::proofs::Chars::row_bad, crate::proofs::Chars::row_char))]
 fn by_row(s: &[u8], at: usize) -> Option<Char>
     requires { at < length s.now }
@@ -121,11 +121,15 @@ fn by_row(s: &[u8], at: usize) -> Option<Char>
 }
 
 // The character that starts at a place. An ASCII byte is a character by itself, and needs no look at the table.
+#[inline(always)]
 #[tactic(auto, using(crate::proofs::Chars::ascii_front, crate::proofs::Chars::no_front))]
 pub fn decode(s: &[u8], at: usize) -> Option<Char>
     ensures { result ≡ front (drop at s.now) }
 {
-    let a = *s.get(at)?;
+    if s.len() <= at {
+        return None;
+    }
+    let a = s[at];
     if a < 0x80 {
         let scalar = u32::from(a);
         return Some(Char { scalar, width: 1 });
@@ -163,9 +167,10 @@ pub struct Walk<'a> {
 }
 
 impl<'a> Walk<'a> {
-    #[tactic(auto, unfolding(crate::specs::Chars::left))]
+    #[tactic(auto, using(crate::proofs::Walks::none_left), unfolding(crate::specs::Chars::left))]
     pub fn new(text: &'a [u8]) -> Walk<'a>
-        ensures { left result ≡ placed 0 (chars text.now) }
+        ensures left { left result ≡ placed 0 (chars text.now) }
+        ensures start { (result.text.now ≡ text.now) × (result.at ≡ 0) }
     {
         Walk { text, at: 0 }
     }
@@ -178,6 +183,7 @@ impl<'a> Iterator for Walk<'a> {
 
     ghost remaining = { item_count left };
 
+    #[inline(always)]
     #[tactic(auto, using(crate::proofs::Walks::placed_none, crate::proofs::Walks::placed_some, crate::proofs::Walks::char_inside), unfolding(crate::specs::Chars::left))]
     fn next(&mut self) -> Option<(usize, Char)> {
         let at = self.at;

@@ -6,14 +6,15 @@ use Rattle.std.proofs.lemmas.Result.{err_from_is_err_and}
 use Rattle.answer.proofs.Laws.{test_held_true}
 use Rattle.utf8.specs.Chars.{left}
 use Rattle.utf8.proofs.Walks.{room_more, prefix_inside}
-use Rattle.iban.proofs.Blanks.{starts, past_blank, past_char, beyond_ascii, no_character, ends}
+use Rattle.iban.proofs.Blanks.{starts, at_end, past_blank, past_char, beyond_ascii, no_character, ends}
 use Rattle.iban.proofs.drop_blanks.Goals as goal
 
 pub loop-place-init : goal.loop-place-init
-loop-place-init c = starts _ _ _ (ap left c.into_iter-place-iterator.ensures.into_iter_gives ∙ c.new-place-items.ensures) c.zeros-text.ensures
+loop-place-init c = starts _ _ _ (ap left c.into_iter-place-iterator.ensures.into_iter_gives ∙ c.new-place-items.ensures.left) c.zeros-text.ensures
 
 pub overflow_add-end : goal.overflow_add-end
-overflow_add-end c = omega (arith, room_more _ _ _ c.in-Some.ensures.steps, prefix_inside c.args.s.now)
+overflow_add-end c =
+    omega (arith, room_more _ _ _ c.in-Some.ensures.steps, prefix_inside c.args.s.now, (at_end _ _ _ _ _ c.loop-place.invariant _ _ _ c.in-Some.ensures.steps).0)
 
 pub loop-place-preserved-then-is_white_space : goal.loop-place-preserved-then-is_white_space
 loop-place-preserved-then-is_white_space c =

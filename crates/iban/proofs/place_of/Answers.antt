@@ -9,4 +9,4 @@ pub returns : goal.returns
 returns c =
     let e = nth_from_yields_List _ _ c.args.k c.nth.ensures.ran
     (YieldsList-from_filter _ black (YieldsList-at c.filter.ensures.source (YieldsList-from_first (λ x. x) left _ refl)) c.filter.ensures.closure (λ x r q k. search (rules, tests))) in
-    place_of_nth c.args.s.now c.args.k (left c.new.result) c.nth.result c.map_or.result c.new.ensures e (search rules)
+    place_of_nth c.args.s.now c.args.k (left c.new.result) c.nth.result c.map_or.result c.new.ensures.left e (search rules)

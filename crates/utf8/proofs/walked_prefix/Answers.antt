@@ -8,7 +8,7 @@ use Rattle.utf8.proofs.walked_prefix.Goals as goal
 
 pub sum-requires-clause-fits : goal.sum-requires-clause-fits
 sum-requires-clause-fits c =
-    let few : room (left c.new.result) < 2 ^ 64 = omega (arith, room_start _ _ c.new.ensures, prefix_inside c.args.s.now) in
+    let few : room (left c.new.result) < 2 ^ 64 = omega (arith, room_start _ _ c.new.ensures.left, prefix_inside c.args.s.now) in
     fits_by_from_yields_list (λ p. p.1.width) (left c.new.result) c.map.result _
     (YieldsList-from_map _ (λ p. p.1.width) (YieldsList-at c.map.ensures.source (YieldsList-from_first (λ x. x) left _ refl)) c.map.ensures.closure (λ x r q k. search (rules, tests)))
     few
@@ -17,4 +17,4 @@ pub returns : goal.returns
 returns c =
     sum_by_from_yields_List (λ p. p.1.width) (left c.new.result) c.map.result _ c.sum.ensures.ran
     (YieldsList-from_map _ (λ p. p.1.width) (YieldsList-at c.map.ensures.source (YieldsList-from_first (λ x. x) left _ refl)) c.map.ensures.closure (λ x r q k. search (rules, tests)))
-    ∙ room_start _ _ c.new.ensures
+    ∙ room_start _ _ c.new.ensures.left
