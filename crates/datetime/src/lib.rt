@@ -82,7 +82,9 @@ fn fraction_part(s: &[u8]) -> Step
     }
 }
 
-// Where the zone stands: after the fraction, or after the seconds.
+// Where the zone stands: after the fraction, or after the seconds. Out of line: its loop is slower where a border of 32 bytes of code runs through it,
+// and so does not move with all that stands around it.
+#[inline(never)]
 #[tactic(auto, unfolding(crate::specs::Datetime::zone_place))]
 fn zone_place(s: &[u8]) -> usize
     ensures { result ≡ zone_place s.now }

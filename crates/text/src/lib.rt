@@ -92,16 +92,17 @@ fn digit(b: u8) -> u64
     u64::from(b.saturating_sub(b'0'))
 }
 
-// A number with one decimal digit more, where it is below 2^64. A number below 10^18 always has room for a digit: the first test saves the two
-// checked operations, which cost the cents a sixth of their time.
-#[tactic(auto, using(crate::proofs::Decimals::fits, crate::proofs::Decimals::checked_fits, crate::proofs::Decimals::past_fits))]
+// A number with one decimal digit more, where it is below 2^64. A number below 10^18 always has room for a digit: this test comes first, as it
+// needs no sum. The sum is said once, after both tests: two sums, one checked, cost the cents of long numbers half as much again.
+#[tactic(auto, using(crate::proofs::Decimals::fits, crate::proofs::Decimals::over))]
 pub fn with_digit(n: u64, d: u64) -> Option<u64>
     ensures { result ≡ fitted (n * 10 + d) }
 {
-    if n < 1_000_000_000_000_000_000 && d < 256 {
+    let small = n < 1_000_000_000_000_000_000 && d < 256;
+    if small || (n <= u64::MAX / 10 && d <= u64::MAX - n * 10) {
         return Some(n * 10 + d);
     }
-    n.checked_mul(10)?.checked_add(d)
+    None
 }
 
 // The number that a text of digits writes, where it is below 2^64.
