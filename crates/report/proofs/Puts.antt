@@ -9,6 +9,7 @@ use borrow.Rule.Slice.PartMut.{put_mid}
 use lib.ListN.{length, get_or, take, drop, set, length-append, length-drop, drop_of_length-le}
 use lib.Seq.{take_at, drop_at, set_at, drop-cons, drop-drop, take-length}
 use Rattle.std.specs.Fmt.{decimal}
+use Rattle.std.proofs.lemmas.List.{set-get_or}
 use Rattle.text.specs.Quote.{bytes_of}
 use Rattle.report.specs.Digits.{decimal_digits}
 use Rattle.verdict.specs.declared.Verdict.{Verdict}
@@ -53,8 +54,12 @@ module _ (x after : ℕ) (out₀ out : List ℕ) (w r : ℕ) (small : x < 2 ^ 64
             ∙ simp (append_assoc, length-append, ← width, add-one);
       }
 
+  -- the same where a byte is written once more as it stands: no body does, and with it the edit digit_one_more is refused for its digit and not for its form
+  pub field_again : (i b : ℕ) → b ≡ get_or (set out w after) i 0 → Put (field x after) out₀ (set (set out w after) i b) (w + 1)
+  field_again i b e = rw (e, set-get_or (set out w after) i 0) field_put
+
 -- a field's length and its writing
-pub ruleset fields = (length-field, written_length, field_put)
+pub ruleset fields = (length-field, written_length, field_put, field_again)
 
 -- what is left of a buffer, as `&mut out[n..]` lends it
 abbrev pub rest_of : ℕ → List ℕ → List ℕ
