@@ -66,7 +66,7 @@ impl Part<'_> {
                 u32::from(check),
             )?;
             let Some(more) = text::with_digit(n, u64::from(b - b'0')) else {
-                text::first_wrong(Set::Digits, self.s, i, self.to, check)?;
+                text::wrong_from(Set::Digits, self.s, i, self.to - i, check)?;
                 return Err(Refusal {
                     reason: Reason::TooLarge,
                     check: u32::from(check) + 1,

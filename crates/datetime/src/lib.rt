@@ -83,7 +83,7 @@ fn fraction_part(s: &[u8]) -> Step
 }
 
 // Where the zone stands: after the fraction, or after the seconds. Out of line: its loop is slower where a border of 32 bytes of code runs through it,
-// and so does not move with all that stands around it.
+// and by itself it lies in one of two ways, where inlined it moved with all that stands around it (docs/DESIGN-PASS.md, "What costs more than before").
 #[inline(never)]
 #[tactic(auto, unfolding(crate::specs::Datetime::zone_place))]
 fn zone_place(s: &[u8]) -> usize

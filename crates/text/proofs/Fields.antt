@@ -8,13 +8,17 @@ use native.Mathlib.Numerals.{add-one}
 use native.Mathlib.Omega.{arith}
 use borrow.Author.Tests.{eq-eqb, ne_eqb}
 use lib.Dec.{T, eqb, leb, le→leb, eqb→eq}
-use lib.ListN.{length, get_or, take, drop, length-map, length-take}
+use lib.ListN.{length, get_or, take, drop, length-map, length-take, length-drop}
 use lib.Seq.{drop-cons}
-use Rattle.std.specs.List.{AllWithin, HoldsAt}
+use Rattle.std.specs.List.{AllWithin, HoldsAt, prefix_len}
 use Rattle.std.specs.Prelude.{Option, Some}
 use Rattle.std.specs.Option.{MatchOption, unwrap_or}
 use Rattle.std.proofs.lemmas.Iterator.{index_from_first}
-use mathlib.Core.Logic.{◌≢◌}
+use mathlib.Core.Logic.{◌≢◌, ⊎_elim}
+use Rattle.std.proofs.lemmas.Bool.{cases_lt}
+use Rattle.std.proofs.Math.Dec.{leb-suc-zero, leb-suc-suc}
+use Rattle.std.proofs.lemmas.List.{drop_all}
+use Rattle.std.proofs.lemmas.List.Sums.{prefix_len-le-length}
 use Rattle.answer.specs.Steps.{must, ◌and_then◌}
 use Rattle.answer.specs.declared.Reason.TheVariants.{Wrong}
 use Rattle.answer.specs.Result.{Step, Pass, Stop}
@@ -41,6 +45,18 @@ first_place_is b s r h = sym (index_from_first (first_place b) (λ x. x ≡ b) (
 
     miss : (x : ℕ) (t : List ℕ) → x ≢ b → first_place b (x ∷ t) ≡ first_place b t + 1
     miss x t n = rw (ne_eqb x b n, add-one (first_place b t))
+
+-- how many bytes stand at the front of a text before the first that a set does not allow, by the same words
+pub front_is : (set : Set) (t : List ℕ) (r : Option ℕ)
+    → MatchOption r (AllWithin (λ x. allowed set x ≡ true) t 0 (length t)) (λ i. (i < length t) × HoldsAt (λ x. allowed set x ≡ false) t i × AllWithin (λ x. allowed set x ≡ true) t 0 i)
+    → unwrap_or r (length t) ≡ prefix_len (allowed set) t
+front_is set t r h = sym (index_from_first (prefix_len (allowed set)) (λ x. allowed set x ≡ false) (λ x. allowed set x ≡ true) refl hit miss t r h)
+  where
+    hit : (x : ℕ) (u : List ℕ) → allowed set x ≡ false → prefix_len (allowed set) (x ∷ u) ≡ 0
+    hit x u e = rw e refl
+
+    miss : (x : ℕ) (u : List ℕ) → allowed set x ≡ true → prefix_len (allowed set) (x ∷ u) ≡ prefix_len (allowed set) u + 1
+    miss x u e = let q : 1 + prefix_len (allowed set) u ≡ prefix_len (allowed set) u + 1 = omega arith in rw (e, q) refl
 
 -- a byte's first place is at most the field's length
 at_most : (t : Bool) (n m : ℕ) → n ≤ m → cond t 0 (suc n) ≤ suc m
@@ -92,6 +108,39 @@ module _ (set : Set) (s : List ℕ) (i k : ℕ) where
   pub wrong_none : Pass ≡ wrong_from set s i 0 k
   unfolding wrong_from
   wrong_none = refl
+
+-- the same search, told by how many bytes of its part of the field are passed: none past the field's end
+module _ (set : Set) (s : List ℕ) (k : ℕ) where
+  abbrev front : ℕ → ℕ → ℕ
+  front i n = prefix_len (allowed set) (take n (drop i s))
+
+  front_step : (i n : ℕ) → front i (suc n) ≡ cond (allowed set (get_or s i 0)) (1 + front (i + 1) n) 0
+  front_step i n = ⊎_elim
+      (λ h. rw (drop-cons s i 0 h, ← add-one i) refl)
+      (λ h. past (allowed set (get_or s i 0)) refl h)
+      (cases_lt i (length s))
+    where
+      past : (t : Bool) → allowed set (get_or s i 0) ≡ t → length s ≤ i → front i (suc n) ≡ cond t (1 + front (i + 1) n) 0
+      past true e h = let l = allowed-inside set s i (rw e tt) in absurd (omega arith)
+      past false e h = rw (drop_all i s h) refl
+
+  on_front : (t : Bool) (i n r : ℕ) {u : Step} → u ≡ must (leb n r) (Wrong (i + 1 + r)) k
+      → must t (Wrong i) k and_then u ≡ must (leb (suc n) (cond t (1 + r) 0)) (Wrong (i + cond t (1 + r) 0)) k
+  unfolding ◌and_then◌
+  on_front true i n r e =
+      let q : i + 1 + r ≡ i + (1 + r) = omega arith in
+      let m : 1 + r ≡ suc r = omega arith in
+      e ∙ rw (q, m, leb-suc-suc n r) refl
+  on_front false i n r e = rw (add-zero i, leb-suc-zero n) refl
+
+  -- those bytes stand in the field
+  pub front_within : (i n : ℕ) → front i n ≤ length s - i
+  front_within i n = omega (arith, prefix_len-le-length (allowed set) (take n (drop i s)), length-take n (drop i s), length-drop i s)
+
+  pub wrong_by_front : (i n : ℕ) → wrong_from set s i n k ≡ must (leb n (front i n)) (Wrong (i + front i n)) k
+  unfolding wrong_from
+  wrong_by_front i zero = refl
+  wrong_by_front i (suc n) = rw (front_step i n) (on_front (allowed set (get_or s i 0)) i n (front (i + 1) n) (wrong_by_front (i + 1) n))
 
 passed : (t : Bool) (p k : ℕ) (u : Step) → must t (Wrong p) k and_then u ≡ Pass → T t × (u ≡ Pass)
 unfolding ◌and_then◌

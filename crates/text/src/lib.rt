@@ -2,6 +2,7 @@
 #![tactic(auto)]
 
 ghost use Rattle.std.specs.Prelude.{◌≡◌, ◌+◌, ◌*◌, ◌^◌, ◌<◌, ◌≤◌, length, get_or, take, drop};
+ghost use Rattle.std.specs.List.{prefix_len};
 ghost use Rattle.text.specs.Ranges.{within};
 ghost use Rattle.text.specs.Class.{class_of, holds, allowed};
 ghost use Rattle.text.specs.Decimal.{digit_of, number_written, fitted};
@@ -136,9 +137,11 @@ pub fn present(at: usize, end: usize, check: u16) -> Step
     must(at < end, Reason::Missing { place: at }, u32::from(check))
 }
 
-// The first of n bytes from a place on that the set does not allow. A step has the field and a place in it, and no slice from there on, since a
-// refusal tells a place of the field; and it counts from 0, since the place and n may together be past what a `usize` holds.
-fn wrong_from(set: Set, s: &[u8], from: usize, n: usize, check: u16) -> Step
+// The first of n bytes from a place on that the set does not allow, one byte after the other. A step has the field and a place in it, and no
+// slice from there on, since a refusal tells a place of the field; and it counts from 0, since the place and n may together be past what a
+// `usize` holds. `first_wrong`, which has the part's end where this has a count, finds the same, and is quicker where the part's length is no
+// constant. This one is for two and four digits, whose loop is written out, and for what is left of a loop that has its own place in the field.
+pub fn wrong_from(set: Set, s: &[u8], from: usize, n: usize, check: u16) -> Step
     ensures { result ≡ wrong_from set s.now from n check }
 {
     for k in 0..n {
@@ -152,12 +155,36 @@ fn wrong_from(set: Set, s: &[u8], from: usize, n: usize, check: u16) -> Step
     Ok(())
 }
 
-// The first of the bytes from one place up to another that the set does not allow.
-#[tactic(auto, unfolding(crate::specs::Field::first_wrong))]
+// At most n bytes of a field from a place on: fewer where the field ends before.
+fn window(s: &[u8], from: usize, n: usize) -> &[u8]
+    ensures { result.now ≡ take n (drop from s.now) }
+{
+    let rest = s.get(from..).unwrap_or(&[]);
+    rest.get(..n).unwrap_or(rest)
+}
+
+// How many bytes stand at the front of a text before the first that the set does not allow.
+fn allowed_front(set: Set, t: &[u8]) -> usize
+    ensures { result ≡ prefix_len (allowed set) t.now }
+{
+    t.iter().position(|b| !set.allows(*b)).unwrap_or(t.len())
+}
+
+// The first of the bytes from one place up to another that the set does not allow. No byte past the field's end is allowed, so the search goes
+// over those of the n bytes that are there, and one test says whether it passed all n.
+#[tactic(auto, using(crate::proofs::Fields::wrong_by_front, crate::proofs::Fields::front_within), unfolding(crate::specs::Field::first_wrong))]
 pub fn first_wrong(set: Set, s: &[u8], from: usize, to: usize, check: u16) -> Step
     ensures { result ≡ first_wrong set s.now from to check }
 {
-    wrong_from(set, s, from, to.saturating_sub(from), check)
+    let n = to.saturating_sub(from);
+    let passed = allowed_front(set, window(s, from, n));
+    must(
+        n <= passed,
+        Reason::Wrong {
+            place: from + passed,
+        },
+        u32::from(check),
+    )
 }
 
 #[tactic(auto, unfolding(crate::specs::Field::literal_at))]
@@ -180,6 +207,7 @@ pub fn in_range(i: usize, low: u64, high: u64, n: u64, check: u32) -> Step
 }
 
 // N digits at a place, and then the range of the number that they write. The range is a step of its own, whose check number is one more.
+#[tactic(auto, using(answer::proofs::Laws::steps, crate::proofs::Fields::digits_there, crate::proofs::Fields::digits_read), unfolding(crate::specs::Field::digits_in))]
 fn digits_in<const N: usize>(s: &[u8], i: usize, low: u64, high: u64, check: u16) -> Step
     requires { (1 ≤ N) × (N ≤ 4) }
     ensures { result ≡ digits_in N s.now i low high check }

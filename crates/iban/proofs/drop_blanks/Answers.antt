@@ -1,4 +1,5 @@
 -- `iban::drop_blanks` meets its contract. The invariant: the text so far, and the characters that are left, are the field's in electronic format.
+use Rattle.std.proofs.Common.{rules}
 use mathlib.Core.Path.{sym, ap, ◌∙◌}
 use native.Mathlib.Omega.{arith}
 use borrow.Author.Tests.{ltb-true, eqb-true}
@@ -24,7 +25,7 @@ pub returns-in_err-must : goal.returns-in_err-must
 returns-in_err-must c =
     let p = err_from_is_err_and c.from_residual.result c.from_residual.ensures.1 in
     rw (p.1, p.2)
-    (beyond_ascii _ _ _ _ _ c.loop-place.invariant _ _ _ c.in-Some.ensures.steps _ (sym c.is_white_space.ensures ∙ c.if-is_white_space.false) (sym c.must.ensures ∙ c.in_err-must.was))
+    (beyond_ascii _ _ _ _ _ c.loop-place.invariant _ _ _ c.in-Some.ensures.steps _ (sym c.is_white_space.ensures ∙ c.if-is_white_space.false) (search rules))
 
 pub overflow_cast-c : goal.overflow_cast-c
 overflow_cast-c c = omega (arith, ltb-true _ _ (test_held_true _ _ _ (sym c.must.ensures ∙ c.in_ok-must.was)))
@@ -39,7 +40,7 @@ pub returns-in_err-must-2 : goal.returns-in_err-must-2
 returns-in_err-must-2 c =
     let p = err_from_is_err_and c.from_residual-in_err-must-2.result c.from_residual-in_err-must-2.ensures.1 in
     rw (p.1, p.2)
-    (no_character _ _ _ _ _ c.loop-place.invariant c.in-None.ensures.steps.0 _ (sym c.must-2.ensures ∙ c.in_err-must-2.was))
+    (no_character _ _ _ _ _ c.loop-place.invariant c.in-None.ensures.steps.0 _ (search rules))
 
 pub returns : goal.returns
 returns c =

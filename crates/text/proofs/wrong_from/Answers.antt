@@ -1,5 +1,5 @@
 -- `text::wrong_from` meets its contract: a byte that is allowed stands in the field, and the search goes on past it.
-use Rattle.std.proofs.Common.{◌≡◌, ◌+◌, ◌-◌, sym, ◌∙◌, arith, get_or, Ok, Err}
+use Rattle.std.proofs.Common.{rules, ◌≡◌, ◌+◌, ◌-◌, sym, ◌∙◌, arith, get_or, Ok, Err}
 use Rattle.std.proofs.lemmas.Result.{err_from_is_err_and}
 use Rattle.answer.specs.Steps.{must}
 use Rattle.answer.specs.declared.Reason.TheVariants.{Wrong}
@@ -12,14 +12,14 @@ pub returns-in_err-must : goal.returns-in_err-must
 returns-in_err-must c =
     let p = err_from_is_err_and c.from_residual.result c.from_residual.ensures.1 in
     let m : must (allowed c.args.set (get_or c.args.s.now (c.args.from + c.loop-k.k) 0)) (Wrong (c.args.from + c.loop-k.k)) c.args.check ≡ Err c.in_err-must.field-0.0
-    = rw (← c.at.ensures, ← c.allows.ensures, ← c.from.ensures, ← c.must.ensures) c.in_err-must.was in
+    = search rules in
     rw (p.1, p.2)
     (sym (c.loop-k.invariant.1 ∙ wrong_step c.args.set c.args.s.now (c.args.from + c.loop-k.k) c.args.check (c.args.n - c.loop-k.k) (omega arith) ∙ stops _ m))
 
 pub loop-k-preserved : goal.loop-k-preserved
 loop-k-preserved c =
     let m : must (allowed c.args.set (get_or c.args.s.now (c.args.from + c.loop-k.k) 0)) (Wrong (c.args.from + c.loop-k.k)) c.args.check ≡ Ok tt
-    = rw (← c.at.ensures, ← c.allows.ensures, ← c.from.ensures, ← c.must.ensures) c.in_ok-must.was in (
+    = search rules in (
       (λ h. omega (arith, allowed-inside c.args.set c.args.s.now (c.args.from + c.loop-k.k) (test_held _ _ _ m))),
       let q : c.args.n - (c.loop-k.k + 1) ≡ c.args.n - c.loop-k.k - 1 = omega arith in
           let f : c.args.from + (c.loop-k.k + 1) ≡ c.args.from + c.loop-k.k + 1 = omega arith in
